@@ -104,6 +104,7 @@ CHECKS = (
     Check("real/real_native", OF_SALVAGE, (*OF_SALVAGE, "--all")),
     Check("real/real_tasks", OF_SALVAGE),
     Check("real/real_exceptions", OF_SALVAGE),
+    Check("real/real_values", OF_SALVAGE),
 )
 """What is run, in order."""
 

@@ -23,6 +23,25 @@ FAULTS = {"bad": set(), "too many": {"count"}}
 """The kinds of ends, of locks, of why a member has no names and of why locals aren't there, each with its values. What
 isn't in memory is of a kind that all have."""
 
+INTEGERS = ("int", "long")
+TOO_LONG = ("digits", "negative", "value")
+CONTAINERS = ("list", "tuple", "set", "frozenset", "range", "slice", "cell", "method", "dict")
+VALUES = {
+    **dict.fromkeys(("absent", "none", "ellipsis", "not implemented"), ()),
+    **dict.fromkeys(("bool", *INTEGERS), ("value",)),
+    "float": ("bits", "text"),
+    "complex": ("imaginary", "real"),
+    **dict.fromkeys(("str", "unicode"), ("length", "value")),
+    **dict.fromkeys(("bytes", "bytearray", "byte string"), ("hex", "length")),
+    **dict.fromkeys(CONTAINERS, ("items", "more")),
+    **dict.fromkeys(("class", "builtin", "module"), ("address", "name")),
+    "function": ("address", "file", "line", "name"),
+    "object": ("address", "type"),
+    "unreadable": ("address", "length", "of"),
+    "damaged": ("address", "of"),
+}
+"""The kinds of values, each with what it has; an integer that is too long to be told has other keys."""
+
 
 def need(holds: object, what: str) -> None:
     """Fails where something doesn't hold."""
@@ -85,10 +104,24 @@ def check_member(tree: object) -> None:
     if tree["locals_fault"] is not None:
         check_kind(tree["locals_fault"], FAULTS)
     for it in tree["locals"] or ():
-        need_keys(it, "address", "arg", "name", "repr")
+        need_keys(it, "address", "arg", "name", "repr", "value")
         need_address(it["address"])
         need_truths(it["arg"])
         need_texts(it["name"], it["repr"] or "")
+        need((it["repr"] is None) == (it["value"] is None), "a value without its text, or a text without its value")
+        need("\n" not in (it["repr"] or ""), f"{it['repr']!r} has a line's end")
+        check_value(it["value"]) if it["value"] is not None else None
+
+
+def check_value(tree: object) -> None:
+    """Fails where something is no tree of a value."""
+    need(isinstance(tree, dict) and tree.get("kind") in VALUES, f"{tree!r} is of no kind of {', '.join(VALUES)}")
+    need_keys(tree, "kind", *VALUES[tree["kind"]] if tree["kind"] not in INTEGERS or tree["value"] is not None else TOO_LONG)
+    for key in ("length", "more", "digits", "line"):
+        need_number(tree.get(key, 0))
+    for it in tree.get("items", ()):
+        for own in it if tree["kind"] == "dict" else [it]:
+            check_value(own)
 
 
 def check_frames(tree: object) -> None:
@@ -137,7 +170,9 @@ def check_told(tree: object, limit: int, sections: Collection[str] = ()) -> None
     """Fails where something is no JSON of this program, which shows so many frames at each end of a thread, and these
     sections."""
     need_keys(tree, "exceptions", "interpreters", "layout_check", "missing", "more", "names", "native", "process", "registers",
-              "search_ended", "signal", "signal_info", "tasks", "version", "version_by_names")
+              "search_ended", "signal", "signal_info", "tasks", *(["values_left_out"] if "values_left_out" in tree else []), "version",
+              "version_by_names")
+    need_number(tree.get("values_left_out", 0))
     check_sections(tree, sections)
     need_truths(tree["more"], tree["version_by_names"])
     need_texts(tree["version"])
@@ -202,7 +237,7 @@ def lines_of_member(tree: Tree) -> List[str]:
     line = f":{tree['line']}" if tree["line"] else ""
     lines = [f"    {escaped(tree['name'])} ({escaped(tree['filename'])}{line})"]
     for it in tree["locals"] or ():
-        lines.append(f"        {escaped(it['name'])}: {'?' if it['repr'] is None else escaped(it['repr'], False)}")
+        lines.append(f"        {escaped(it['name'])}: {'?' if it['repr'] is None else it['repr']}")
     fault = locals_fault(tree["locals_fault"])
     return lines + ([f"        ... {fault}"] if fault else [])
 
@@ -245,6 +280,8 @@ def text_of(tree: Tree, core: str) -> str:
     lines += task_lines(tree["tasks"] or [])
     lines += register_lines(tree)
     lines += layout_lines(tree)
+    left_out = tree.get("values_left_out", 0)
+    lines += [f"... {left_out} more values are not shown"] if left_out else []
     return "".join(f"{line}\n" for line in lines)
 
 

@@ -8,6 +8,7 @@ use Rattle.py_fields.specs.declared.layout.Layout.{Layout}
 use Rattle.py_fronts.specs.declared.thread_front.ThreadFront.{ThreadFront}
 use Rattle.py_fronts.specs.declared.salvaged.SalvagedInterpreter.{SalvagedInterpreter}
 use Rattle.image_memory.specs.Images.{Pushed}
+use Rattle.py_process.specs.Facts.{Known}
 use Rattle.py_records.specs.declared.records.Records.{Records}
 use Rattle.salvage_words.specs.declared.asked.Sections.{Sections}
 use Rattle.thread_registers.specs.declared.threads.PythonThread.{PythonThread}
@@ -30,6 +31,7 @@ use Rattle.memory_sections.specs.Pythons.{python_threads}
 use Rattle.memory_sections.specs.Each.{EachTold}
 pub use Rattle.memory_sections.specs.Each.{ToldIf}
 use Rattle.memory_sections.specs.Exceptions.{ExceptionsAre}
+use Rattle.memory_sections.specs.Locals.{ValuesAre}
 use Rattle.memory_sections.specs.declared.told.MemoryTold.{MemoryTold}
 
 -- ---- names
@@ -95,11 +97,13 @@ NativeAre asked strict bytes images m is told =
 
 -- ---- all of them
 
--- What is told of a process whose core has these bytes and was opened with these images, by a layout and the records of
--- its version, over this memory, and of whose interpreters these are shown.
-pub record AreMemoryTold (asked : Sections) (bytes : List ℕ) (images : Pushed) (l : Layout) (r : Records) (m : Memory)
-    (is : List SalvagedInterpreter) (told : MemoryTold) : Type 0 where
+-- What is told of a process whose core has these bytes and was opened with these images, by which this is known of it, by
+-- a layout and the records of its version, over this memory, and of whose interpreters these are shown; values of locals
+-- by so many `-l`.
+pub record AreMemoryTold (asked : Sections) (times : ℕ) (bytes : List ℕ) (images : Pushed) (k : Known) (l : Layout)
+    (r : Records) (m : Memory) (is : List SalvagedInterpreter) (told : MemoryTold) : Type 0 where
   pub names : NamesAre asked.names l (rule_of l r) m is told.names
   pub tasks : TasksAre asked.tasks l r m is told.tasks
   pub exceptions : ExceptionsAre asked.exceptions l r m is told.exceptions
   pub native : NativeAre asked.native asked.strict bytes images m is told.native
+  pub values : ValuesAre times k l m is told.values

@@ -1,5 +1,5 @@
 //! The sections of what is told of a process that are read in its memory: the names of its threads, the tasks of asyncio,
-//! exceptions, and native stacks. Each is asked for by itself.
+//! exceptions, native stacks, and the values of locals. Each is asked for by itself.
 //!
 //! What each one reads, and what it owes, is its own crate's; here they are asked of an opened process, of whose
 //! interpreters this is left.
@@ -7,6 +7,7 @@
 
 mod exceptions;
 mod keeping;
+mod locals;
 mod names;
 mod native;
 mod pythons;

@@ -27,11 +27,7 @@ fn read_or_wanting<T: Drop>(read: Result<T, ReprError>) -> Result<T, AllocError>
 }
 
 /// The types by which values are told. Reads that are refused are kept.
-fn own_types(
-    alloc: Global,
-    process: &Process,
-    misses: &mut Misses,
-) -> Result<ReprTypes, AllocError>
+fn own_types(alloc: Global, process: &Process, misses: &mut Misses) -> Result<ReprTypes, AllocError>
     ensures { IfOk result (λ types. types ≡ repr_types_at (known_of process.now.info) process.now.layout
         (byte_at (regions_of process.now.dump))) }
 {

@@ -3,15 +3,18 @@ ghost use Rattle.std.specs.Prelude.{◌≡◌, IfOk};
 ghost use Rattle.image_memory.specs.Backed.{regions_of};
 ghost use Rattle.process_memory.specs.Memory.{byte_at};
 ghost use Rattle.py_fields.specs.Sound.{IsSound};
+ghost use Rattle.py_process.specs.Facts.{known_of};
 ghost use Rattle.memory_sections.specs.Told.{AreMemoryTold, names_given};
 
 use crate::exceptions::exceptions_section;
+use crate::locals::values_section;
 use crate::names::names_section;
 use crate::native::native_section;
 use crate::tasks::tasks_section;
 use core_stacks::Process;
 use exception_texts::InterpreterExceptions;
 use image_memory::Images;
+use local_values::LocalValues;
 use missed_reads::Misses;
 use native_stacks::NativeStacks;
 use py_fronts::SalvagedInterpreter;
@@ -32,6 +35,8 @@ pub struct MemoryTold {
     pub exceptions: Option<Vec<InterpreterExceptions>>,
     /// The native stacks of the threads of the process.
     pub native: Option<NativeStacks>,
+    /// The values of the locals of the frames that are shown.
+    pub values: Option<LocalValues>,
 }
 
 /// The names of the threads, by interpreters; none where they are not asked for.
@@ -45,12 +50,14 @@ pub fn names_told(told: &MemoryTold) -> &[InterpreterNames]
 }
 
 /// What is told in the sections that are asked for of an opened process, of whose interpreters these are shown, by the
-/// records of its version and the images with which it was opened. Reads that are refused are kept.
+/// records of its version and the images with which it was opened; with the values of locals, by so many `-l`. Reads that
+/// are refused are kept.
 ///
 /// What can't be had of a section is told in it. The one error is want of memory.
 pub fn tell_memory(
     alloc: Global,
     asked: Sections,
+    times: u64,
     images: &Images,
     process: &Process,
     records: &Records,
@@ -58,8 +65,8 @@ pub fn tell_memory(
     misses: &mut Misses,
 ) -> Result<MemoryTold, AllocError>
     requires sound { IsSound process.now.layout }
-    ensures { IfOk result (AreMemoryTold asked process.now.dump.core images.now process.now.layout records.now
-        (byte_at (regions_of process.now.dump)) interpreters.now) }
+    ensures { IfOk result (AreMemoryTold asked times process.now.dump.core images.now (known_of process.now.info)
+        process.now.layout records.now (byte_at (regions_of process.now.dump)) interpreters.now) }
 {
     let names = names_section(alloc, asked.names, process, records, misses, interpreters)?;
     let tasks = tasks_section(alloc, asked.tasks, process, records, misses, interpreters)?;
@@ -80,10 +87,12 @@ pub fn tell_memory(
         interpreters,
         misses,
     )?;
+    let values = values_section(alloc, times, process, misses, interpreters)?;
     Ok(MemoryTold {
         names,
         tasks,
         exceptions,
         native,
+        values,
     })
 }

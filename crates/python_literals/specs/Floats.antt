@@ -1,6 +1,5 @@
 -- Floats as `repr` writes them (Objects/floatobject.c, `float_repr`; Python/pystrtod.c, format `r`). That the decimal
--- is the
--- shortest that reads back, and laid out as there, is tested and not said here.
+-- is the shortest that reads back, and laid out as there, is tested and not said here.
 use Rattle.std.specs.Prelude.{◌≡◌, ℕ, ◌%◌, ◌^◌, ◌<◌, nat_le, ◌==◌, List, ◌++◌, codes, Some, if◌then◌else◌}
 use Rattle.std.specs.Str.Parse.{starts_with_minus}
 use Rattle.std.specs.Float.{binary64, is_sign_negative, ◌≤ᶠ◌}
@@ -17,8 +16,7 @@ pub record IsDecimalOf (x : Float) (text : List ℕ) : Type 0 where
   pub sign : is_sign_negative read ≡ is_sign_negative x
 
 -- the bits of an infinity's size (IEEE 754, binary64: the exponent's field is all ones, and the fraction 0); above it
--- there
--- is no number
+-- there is no number
 abbrev pub infinity : ℕ
 infinity = 0x7ff0_0000_0000_0000
 

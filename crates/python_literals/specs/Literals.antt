@@ -1,6 +1,5 @@
 -- How a literal in quotes is read: Python's own rule (Language Reference, 'Lexical analysis', string and bytes
--- literals), as far
--- as `repr` uses it. It knows of no writer.
+-- literals), as far as `repr` uses it. It knows of no writer.
 use Rattle.std.specs.Prelude.{◌≡◌, ◌≢◌, ◌⊎◌, ℕ, ◌<◌, ◌^◌, ◌==◌, All, Option, Some, None, List, [], ◌∷◌, ◌++◌, length}
 use Rattle.std.specs.Prelude.{if◌then◌else◌}
 use Rattle.std.specs.Prelude.{encode_utf8}

@@ -1,8 +1,7 @@
 -- Texts and bytes in quotes, as CPython's `repr` writes them: `unicode_repr` (Objects/unicodeobject.c) and
--- `PyBytes_Repr`
--- (Objects/bytesobject.c); of Python 2.7 `PyString_Repr` (Objects/stringobject.c) and `unicodeescape_string`. Which
--- characters
--- can be printed is Unicode's to say; a version's own Unicode may lack the newest.
+-- `PyBytes_Repr` (Objects/bytesobject.c); of Python 2.7 `PyString_Repr` (Objects/stringobject.c) and
+-- `unicodeescape_string`. Which characters can be printed is Unicode's to say; a version's own Unicode may lack the
+-- newest.
 use Rattle.std.specs.Prelude.{ℕ, ◌-◌, ◌&&◌, ◌||◌, ◌==◌, ◌++◌, not, nat_eq, nat_le, nat_lt, Bool, true, false, Option}
 use Rattle.std.specs.Prelude.{Some, None}
 use Rattle.std.specs.Prelude.{List, [], ◌∷◌, length, replicate, codes, if◌then◌else◌, encode_utf8}
@@ -31,9 +30,8 @@ escapes_apostrophe Printable = false
 escapes_apostrophe Ascii = false
 escapes_apostrophe ByteArray = true
 
--- what stands behind a backslash for a code point that has a short form: the quote and the backslash itself, and t,
--- n, r
--- for the tab, the line feed and the carriage return
+-- what stands behind a backslash for a code point that has a short form: the quote and the backslash itself, and t, n,
+-- r for the tab, the line feed and the carriage return
 abbrev pub short_of : Style → ℕ → ℕ → Option ℕ
 short_of style quote c =
     if c == quote || c == 92 then Some c

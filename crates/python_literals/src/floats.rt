@@ -27,8 +27,7 @@ fn reads_back(text: &str, x: f64) -> bool
 }
 
 /// The decimal of a finite float, laid out as Python has it, from the shortest one: an exponent has two digits at
-/// least, and
-/// stands where more than three zeros would follow the point.
+/// least, and stands where more than three zeros would follow the point.
 fn laid_out(alloc: Global, shortest: &str) -> Result<String, AllocError> {
     let mut text = String::new(alloc);
     if let Some((digits, exponent)) = shortest.split_once('e') {
@@ -72,8 +71,7 @@ fn push_small(text: &mut String, sign: &str, digits: &str) -> Result<(), AllocEr
 }
 
 /// The decimal of a finite float, laid out as Python has it: with a point or an exponent, or, in a complex number,
-/// without a
-/// fraction of 0.
+/// without a fraction of 0.
 fn python_decimal(alloc: Global, shortest: &str, is_part: bool) -> Result<String, AllocError> {
     let text = laid_out(alloc, shortest)?;
     if !is_part {
@@ -188,9 +186,8 @@ fn push_complex_parts(
     push_parts(text, real, imaginary)
 }
 
-/// Appends a complex number as Python's `repr` writes it, by the bits of its two floats: without a real part that is
-/// 0 and has
-/// no sign. The one error is want of memory.
+/// Appends a complex number as Python's `repr` writes it, by the bits of its two floats: without a real part that is 0
+/// and has no sign. The one error is want of memory.
 pub fn push_complex(
     alloc: Global,
     text: &mut String,

@@ -1,6 +1,5 @@
 //! Texts and bytes as Python writes them in code: `repr` of `str`, `bytes` and their like, and the grammar by which
-//! such
-//! a literal is read, which has one reading.
+//! such a literal is read, which has one reading.
 #![tactic(auto)]
 
 mod floats;

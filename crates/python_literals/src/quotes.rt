@@ -2,9 +2,8 @@
 ghost use Rattle.std.specs.Prelude.{◌≡◌, ◌++◌, ◌∷◌, ◌^◌, ◌-◌, List, ℕ, OnOk, codes, false, [], string_bytes};
 ghost use Rattle.std.specs.Fmt.{digits, format_spec, padded_integral};
 ghost use Rattle.python_literals.specs.Literals.{Literal};
-ghost use Rattle.python_literals.specs.Quotes.{escapes_apostrophe, has, hex_text, is_printable, long_text, point_text, points_text};
-ghost use Rattle.python_literals.specs.Quotes.{quote_of};
-ghost use Rattle.python_literals.specs.Quotes.{quoted, short_of, stands_plain};
+ghost use Rattle.python_literals.specs.Quotes.{escapes_apostrophe, has, hex_text, is_printable, long_text, point_text};
+ghost use Rattle.python_literals.specs.Quotes.{points_text, quote_of, quoted, short_of, stands_plain};
 
 use std::alloc::AllocError;
 use ucd_category::{GeneralCategory, GeneralCategoryGroup};
@@ -168,9 +167,8 @@ fn push_points(
 }
 
 /// Appends code points in quotes, as Python's `repr` writes them: in apostrophes, unless there is an apostrophe among
-/// them
-/// and no double quote. What does not stand for itself is escaped. A surrogate may be among them. The one error is want
-/// of memory.
+/// them and no double quote. What does not stand for itself is escaped. A surrogate may be among them. The one error is
+/// want of memory.
 #[tactic(auto, unfolding(crate::specs::Quotes::quoted))]
 pub fn push_quoted(text: &mut String, style: Style, points: &[u32]) -> Result<(), AllocError>
     ensures adds { OnOk result (string_bytes text.new ≡ string_bytes text.old ++ quoted style points.now) }

@@ -1,7 +1,7 @@
--- Values without others in them, in the manner of `repr` (Objects/longobject.c, Objects/boolobject.c, Objects/typeobject.c,
--- Objects/bytearrayobject.c and their like). This project's own are: classes by their bare names, and as Python 3 writes them;
--- functions with their files and lines; modules by their names alone; what is left out, can't be read, or is an object of
--- another type.
+-- Values without others in them, in the manner of `repr` (Objects/longobject.c, Objects/boolobject.c,
+-- Objects/typeobject.c, Objects/bytearrayobject.c and their like). This project's own are: classes by their bare names,
+-- and as Python 3 writes them; functions with their files and lines; modules by their names alone; what is left out,
+-- can't be read, or is an object of another type.
 use Rattle.std.specs.Prelude.{ℕ, ◌+◌, ◌-◌, ◌*◌, ◌^◌, ◌==◌, min, ℤ, Bool, true, false, Option, Some, None}
 use Rattle.std.specs.Prelude.{if◌then◌else◌, List, [], ◌∷◌}
 use Rattle.std.specs.Prelude.{◌++◌, codes, length, decimal}

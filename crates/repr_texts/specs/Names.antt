@@ -1,6 +1,5 @@
 -- Names of types, functions and files within a value's text. That a name which could be taken for more than a name
--- stands in
--- quotes is this project's rule.
+-- stands in quotes is this project's rule.
 use Rattle.std.specs.Prelude.{ℕ, ◌==◌, nat_eq, ◌&&◌, ◌||◌, not, Bool, false, Option, Some, None, if◌then◌else◌, List}
 use Rattle.std.specs.Prelude.{[], ◌++◌, codes, length}
 use Rattle.std.specs.Prelude.{encode_utf8_all}

@@ -1,7 +1,7 @@
 -- The texts of a value, in the manner of `repr` (Objects/listobject.c, Objects/tupleobject.c, Objects/dictobject.c,
--- Objects/setobject.c, Objects/rangeobject.c, Objects/sliceobject.c and their like). This project's own are: what is left
--- out has a count; a range has its step, also of 1; a cell and a method show what they hold; a value of a class that
--- derives from one of these is written as that one; and one that holds itself goes on to the last level.
+-- Objects/setobject.c, Objects/rangeobject.c, Objects/sliceobject.c and their like). This project's own are: what is
+-- left out has a count; a range has its step, also of 1; a cell and a method show what they hold; a value of a class
+-- that derives from one of these is written as that one; and one that holds itself goes on to the last level.
 use Rattle.std.specs.Prelude.{◌≡◌, ℕ, ◌==◌, ◌&&◌, Bool, true, false, if◌then◌else◌, List, [], ◌∷◌, ◌++◌, codes}
 use Rattle.std.specs.Prelude.{length, decimal, min, suc, ⊤}
 use Rattle.std.specs.Fmt.{signed_decimal}

@@ -27,7 +27,10 @@ use Rattle.py_fronts.specs.declared.search.Looked.{Looked}
 use Rattle.py_fronts.specs.Crashes.{is_crashed}
 use Rattle.py_fronts.specs.Salvaged.{first_crashed}
 use Rattle.salvage_json.specs.Kinds.{end_tree, fault_or_null, fault_tree, lock_tree, why_tree}
-use Rattle.salvage_json.specs.Members.{frame_tree, local_tree, shown_tree, standing_tree, standings_tree, text_tree}
+use Rattle.salvage_json.specs.Members.{frame_tree, kept_text, kept_tree, local_tree, shown_tree, standing_tree}
+use Rattle.salvage_json.specs.Members.{standings_tree, text_tree}
+use Rattle.repr_json.specs.Shown.{HasNoFloat, data_in, kept_float, text_in}
+use Rattle.repr_json.specs.declared.shown.ShownValues.{ShownValues}
 use Rattle.thread_names.specs.Lookup.{name_of, threads_named}
 use Rattle.thread_names.specs.declared.names.InterpreterNames.{InterpreterNames}
 use Rattle.thread_names.specs.declared.names.ThreadName.{ThreadName}
@@ -97,76 +100,84 @@ fault_or None = refl
 
 -- ---- members
 
-local : (l : LocalVariable) → has_float (local_tree l) ≡ false
-local l = ap (λ b. b || false) (text l.repr)
+kept : (t : Option (List ℕ)) (d : Data) → has_float d ≡ false → has_float (kept_text t d) ≡ false
+kept (Some t) d h = refl
+kept None d h = h
 
-shown : (ls : Option (Vec LocalVariable Global)) → has_float (shown_tree ls) ≡ false
-shown (Some ls) = items local_tree local ls.items
-shown None = refl
+tree : (v : ShownValues) → HasNoFloat v → (a : ℕ) → has_float (kept_tree (data_in v a)) ≡ false
+tree v h a = elim (data_in v a) as (λ d. kept_float d ≡ false → has_float (kept_tree d) ≡ false)
+    [ Some d ↦ λ e. e | None ↦ λ e. refl ] (h a)
 
-frame : (f : Frame) (e : Option StackError) → has_float (frame_tree f e) ≡ false
-frame f e = λ i. false || (shown f.locals i || (fault_or e i || (false || false)))
+local : (v : ShownValues) → HasNoFloat v → (l : LocalVariable) → has_float (local_tree v l) ≡ false
+local v h l = λ i. kept (text_in v l.addr) (text_tree l.repr) (text l.repr) i || (tree v h l.addr i || false)
 
-member : (s : Standing) → has_float (standing_tree s) ≡ false
-member (standing.Frame f e) = frame f e
-member (standing.Member address e) = ap (λ b. b || false) (why e)
+shown : (v : ShownValues) → HasNoFloat v → (ls : Option (Vec LocalVariable Global)) → has_float (shown_tree v ls) ≡ false
+shown v h (Some ls) = items (local_tree v) (local v h) ls.items
+shown v h None = refl
 
-members : (ss : List Standing) → has_float (standings_tree ss) ≡ false
-members ss = items standing_tree member ss
+frame : (v : ShownValues) → HasNoFloat v → (f : Frame) (e : Option StackError) → has_float (frame_tree v f e) ≡ false
+frame v h f e = λ i. false || (shown v h f.locals i || (fault_or e i || (false || false)))
+
+member : (v : ShownValues) → HasNoFloat v → (s : Standing) → has_float (standing_tree v s) ≡ false
+member v h (standing.Frame f e) = frame v h f e
+member v h (standing.Member address e) = ap (λ b. b || false) (why e)
+
+members : (v : ShownValues) → HasNoFloat v → (ss : List Standing) → has_float (standings_tree v ss) ≡ false
+members v h ss = items (standing_tree v) (member v h) ss
 
 -- ---- threads and interpreters
 
-frames : (f : FramesFront) → has_float (frames_tree f) ≡ false
-frames f = λ i. ending f.end i || (members f.first.items i || (members f.last.items i || (false || false)))
+frames : (v : ShownValues) → HasNoFloat v → (f : FramesFront) → has_float (frames_tree v f) ≡ false
+frames v h f = λ i. ending f.end i || (members v h f.first.items i || (members v h f.last.items i || (false || false)))
 
 name : (n : Option (List ℕ)) → has_float (name_tree n) ≡ false
 name (Some n) = refl
 name None = refl
 
-thread : (l : LockState) (crash : Option Crash) (ns : List ThreadName) (t : ThreadFront)
-    → has_float (thread_tree l crash ns t) ≡ false
-thread l crash ns t = λ i. frames t.frames i
+thread : (v : ShownValues) → HasNoFloat v → (l : LockState) (crash : Option Crash) (ns : List ThreadName) (t : ThreadFront)
+    → has_float (thread_tree v l crash ns t) ≡ false
+thread v h l crash ns t = λ i. frames v h t.frames i
     || (false || (name (name_of ns t.thread_id) i || (id t.os_thread_id i || (false || false))))
 
-reversed : (l : LockState) (crash : Option Crash) (ns : List ThreadName) (ts : List ThreadFront)
-    → items_have_float (items_of (reversed_trees l crash ns ts)) ≡ false
-reversed l crash ns ts = items (thread_tree l crash ns) (thread l crash ns) (reverse ts)
+reversed : (v : ShownValues) → HasNoFloat v → (l : LockState) (crash : Option Crash) (ns : List ThreadName) (ts : List ThreadFront)
+    → items_have_float (items_of (reversed_trees v l crash ns ts)) ≡ false
+reversed v h l crash ns ts = items (thread_tree v l crash ns) (thread v h l crash ns) (reverse ts)
 
-placed : (l : LockState) (crash : Option Crash) (ns : List ThreadName) (ts : List ThreadFront) (at : Option ℕ)
-    → items_have_float (items_of (placed_trees l crash ns ts at)) ≡ false
-placed l crash ns ts None = reversed l crash ns ts
-placed l crash ns ts (Some i) = both (reversed_trees l crash ns (take 1 (drop i ts)))
-    (reversed_trees l crash ns (drop (i + 1) ts) ++ reversed_trees l crash ns (take i ts))
-    (reversed l crash ns (take 1 (drop i ts)))
-    (both (reversed_trees l crash ns (drop (i + 1) ts)) (reversed_trees l crash ns (take i ts))
-    (reversed l crash ns (drop (i + 1) ts)) (reversed l crash ns (take i ts)))
+placed : (v : ShownValues) → HasNoFloat v → (l : LockState) (crash : Option Crash) (ns : List ThreadName) (ts : List ThreadFront) (at : Option ℕ)
+    → items_have_float (items_of (placed_trees v l crash ns ts at)) ≡ false
+placed v h l crash ns ts None = reversed v h l crash ns ts
+placed v h l crash ns ts (Some i) = both (reversed_trees v l crash ns (take 1 (drop i ts)))
+    (reversed_trees v l crash ns (drop (i + 1) ts) ++ reversed_trees v l crash ns (take i ts))
+    (reversed v h l crash ns (take 1 (drop i ts)))
+    (both (reversed_trees v l crash ns (drop (i + 1) ts)) (reversed_trees v l crash ns (take i ts))
+    (reversed v h l crash ns (drop (i + 1) ts)) (reversed v h l crash ns (take i ts)))
 
-threads : (l : LockState) (crash : Option Crash) (ns : List ThreadName) (ts : List ThreadFront)
-    → has_float (threads_tree l crash ns ts) ≡ false
-threads l crash ns ts = placed l crash ns ts (position (λ thread. is_crashed crash thread) ts)
+threads : (v : ShownValues) → HasNoFloat v → (l : LockState) (crash : Option Crash) (ns : List ThreadName) (ts : List ThreadFront)
+    → has_float (threads_tree v l crash ns ts) ≡ false
+threads v h l crash ns ts = placed v h l crash ns ts (position (λ thread. is_crashed crash thread) ts)
 
-interpreter : (crash : Option Crash) (ns : List InterpreterNames) (i : SalvagedInterpreter)
-    → has_float (interpreter_tree crash ns i) ≡ false
-interpreter crash ns s = λ i. lock s.lock i
-    || (false || (threads s.lock crash (threads_named ns s.front.address) s.front.threads.threads.items i
+interpreter : (v : ShownValues) → HasNoFloat v → (crash : Option Crash) (ns : List InterpreterNames) (i : SalvagedInterpreter)
+    → has_float (interpreter_tree v crash ns i) ≡ false
+interpreter v h crash ns s = λ i. lock s.lock i
+    || (false || (threads v h s.lock crash (threads_named ns s.front.address) s.front.threads.threads.items i
     || (ending s.front.threads.end i || false)))
 
-some_interpreters : (crash : Option Crash) (ns : List InterpreterNames) (is : List SalvagedInterpreter)
-    → items_have_float (items_of (interpreter_trees crash ns is)) ≡ false
-some_interpreters crash ns is = items (interpreter_tree crash ns) (interpreter crash ns) is
+some_interpreters : (v : ShownValues) → HasNoFloat v → (crash : Option Crash) (ns : List InterpreterNames) (is : List SalvagedInterpreter)
+    → items_have_float (items_of (interpreter_trees v crash ns is)) ≡ false
+some_interpreters v h crash ns is = items (interpreter_tree v crash ns) (interpreter v h crash ns) is
 
-placed_interpreters : (crash : Option Crash) (ns : List InterpreterNames) (is : List SalvagedInterpreter)
-    (at : Option ℕ) → items_have_float (items_of (placed_of_all crash ns is at)) ≡ false
-placed_interpreters crash ns is None = some_interpreters crash ns is
-placed_interpreters crash ns is (Some i) = both (interpreter_trees crash ns (take 1 (drop i is)))
-    (interpreter_trees crash ns (take i is) ++ interpreter_trees crash ns (drop (i + 1) is))
-    (some_interpreters crash ns (take 1 (drop i is)))
-    (both (interpreter_trees crash ns (take i is)) (interpreter_trees crash ns (drop (i + 1) is))
-    (some_interpreters crash ns (take i is)) (some_interpreters crash ns (drop (i + 1) is)))
+placed_interpreters : (v : ShownValues) → HasNoFloat v → (crash : Option Crash) (ns : List InterpreterNames) (is : List SalvagedInterpreter)
+    (at : Option ℕ) → items_have_float (items_of (placed_of_all v crash ns is at)) ≡ false
+placed_interpreters v h crash ns is None = some_interpreters v h crash ns is
+placed_interpreters v h crash ns is (Some i) = both (interpreter_trees v crash ns (take 1 (drop i is)))
+    (interpreter_trees v crash ns (take i is) ++ interpreter_trees v crash ns (drop (i + 1) is))
+    (some_interpreters v h crash ns (take 1 (drop i is)))
+    (both (interpreter_trees v crash ns (take i is)) (interpreter_trees v crash ns (drop (i + 1) is))
+    (some_interpreters v h crash ns (take i is)) (some_interpreters v h crash ns (drop (i + 1) is)))
 
-pub interpreters : (crash : Option Crash) (ns : List InterpreterNames) (is : List SalvagedInterpreter)
-    → has_float (interpreters_tree crash ns is) ≡ false
-interpreters crash ns is = placed_interpreters crash ns is (first_crashed crash is)
+pub interpreters : (v : ShownValues) → HasNoFloat v → (crash : Option Crash) (ns : List InterpreterNames) (is : List SalvagedInterpreter)
+    → has_float (interpreters_tree v crash ns is) ≡ false
+interpreters v h crash ns is = placed_interpreters v h crash ns is (first_crashed crash is)
 
 pub process : (p : Option (ℤ × List ℕ)) → has_float (process_tree p) ≡ false
 process None = refl

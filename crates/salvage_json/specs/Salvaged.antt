@@ -13,31 +13,34 @@ use Rattle.thread_names.specs.Lookup.{threads_named}
 use Rattle.thread_names.specs.declared.names.InterpreterNames.{InterpreterNames}
 use Rattle.salvage_json.specs.Kinds.{address_tree, end_tree, lock_tree}
 use Rattle.salvage_json.specs.Threads.{threads_tree}
+use Rattle.repr_json.specs.declared.shown.ShownValues.{ShownValues}
 
-abbrev pub interpreter_tree : Option Crash → List InterpreterNames → SalvagedInterpreter → Data
-interpreter_tree crash names i = object (
+abbrev pub interpreter_tree : ShownValues → Option Crash → List InterpreterNames → SalvagedInterpreter → Data
+interpreter_tree values crash names i = object (
     member (codes "address") (address_tree i.front.address) (
     member (codes "lock") (lock_tree i.lock) (
     member (codes "searched") (boolean i.front.searched) (
-    member (codes "threads") (threads_tree i.lock crash (threads_named names i.front.address)
+    member (codes "threads") (threads_tree values i.lock crash (threads_named names i.front.address)
     i.front.threads.threads.items) (
     member (codes "threads_end") (end_tree i.front.threads.end) no_members)))))
 
-abbrev pub interpreter_trees : Option Crash → List InterpreterNames → List SalvagedInterpreter → List Data
-interpreter_trees crash names is = map (λ i. interpreter_tree crash names i) is
+abbrev pub interpreter_trees : ShownValues → Option Crash → List InterpreterNames → List SalvagedInterpreter
+    → List Data
+interpreter_trees values crash names is = map (λ i. interpreter_tree values crash names i) is
 
 -- the one at a place first, and then the others
-abbrev pub placed_trees : Option Crash → List InterpreterNames → List SalvagedInterpreter → Option ℕ → List Data
-placed_trees crash names is None = interpreter_trees crash names is
-placed_trees crash names is (Some i) = interpreter_trees crash names (take 1 (drop i is))
-    ++ (interpreter_trees crash names (take i is) ++ interpreter_trees crash names (drop (i + 1) is))
+abbrev pub placed_trees : ShownValues → Option Crash → List InterpreterNames → List SalvagedInterpreter → Option ℕ
+    → List Data
+placed_trees values crash names is None = interpreter_trees values crash names is
+placed_trees values crash names is (Some i) = interpreter_trees values crash names (take 1 (drop i is))
+    ++ (interpreter_trees values crash names (take i is) ++ interpreter_trees values crash names (drop (i + 1) is))
 
 -- the first one of which a thread got the signal, where there is one, and then the others in order
-abbrev pub ordered_trees : Option Crash → List InterpreterNames → List SalvagedInterpreter → List Data
-ordered_trees crash names is = placed_trees crash names is (first_crashed crash is)
+abbrev pub ordered_trees : ShownValues → Option Crash → List InterpreterNames → List SalvagedInterpreter → List Data
+ordered_trees values crash names is = placed_trees values crash names is (first_crashed crash is)
 
-abbrev pub interpreters_tree : Option Crash → List InterpreterNames → List SalvagedInterpreter → Data
-interpreters_tree crash names is = array (items_of (ordered_trees crash names is))
+abbrev pub interpreters_tree : ShownValues → Option Crash → List InterpreterNames → List SalvagedInterpreter → Data
+interpreters_tree values crash names is = array (items_of (ordered_trees values crash names is))
 
 -- what a search looked at that ended before all was looked at
 abbrev pub ended_tree : Looked → Data

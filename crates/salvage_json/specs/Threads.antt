@@ -14,18 +14,19 @@ use Rattle.thread_names.specs.Lookup.{name_of}
 use Rattle.thread_names.specs.declared.names.ThreadName.{ThreadName}
 use Rattle.salvage_json.specs.Kinds.{address_tree, end_tree}
 use Rattle.salvage_json.specs.Members.{standings_tree}
+use Rattle.repr_json.specs.declared.shown.ShownValues.{ShownValues}
 
 abbrev pub id_tree : Option ℕ → Data
 id_tree (Some id) = number (unsigned id)
 id_tree None = null
 
 -- the first frames, how many aren't shown, the last ones, and how they end
-abbrev pub frames_tree : FramesFront → Data
-frames_tree f = object (
+abbrev pub frames_tree : ShownValues → FramesFront → Data
+frames_tree values f = object (
     member (codes "between") (number (unsigned f.between)) (
     member (codes "end") (end_tree f.end) (
-    member (codes "first") (standings_tree f.first.items) (
-    member (codes "last") (standings_tree f.last.items) (
+    member (codes "first") (standings_tree values f.first.items) (
+    member (codes "last") (standings_tree values f.last.items) (
     member (codes "met") (number (unsigned f.met)) no_members)))))
 
 -- the name that is told of a thread, where one is
@@ -33,30 +34,32 @@ abbrev pub name_tree : Option (List ℕ) → Data
 name_tree (Some name) = string (encode_utf8_all name)
 name_tree None = null
 
-abbrev pub thread_tree : LockState → Option Crash → List ThreadName → ThreadFront → Data
-thread_tree lock crash names t = object (
+abbrev pub thread_tree : ShownValues → LockState → Option Crash → List ThreadName → ThreadFront → Data
+thread_tree values lock crash names t = object (
     member (codes "address") (address_tree t.address) (
     member (codes "crashed") (boolean (is_crashed crash t)) (
-    member (codes "frames") (frames_tree t.frames) (
+    member (codes "frames") (frames_tree values t.frames) (
     member (codes "gil") (boolean (holds_lock lock t)) (
     member (codes "name") (name_tree (name_of names t.thread_id)) (
     member (codes "os_thread_id") (id_tree t.os_thread_id) (
     member (codes "thread_id") (number (unsigned t.thread_id)) no_members)))))))
 
 -- threads from the last to the first
-abbrev pub reversed_trees : LockState → Option Crash → List ThreadName → List ThreadFront → List Data
-reversed_trees lock crash names threads = map (λ t. thread_tree lock crash names t) (reverse threads)
+abbrev pub reversed_trees : ShownValues → LockState → Option Crash → List ThreadName → List ThreadFront → List Data
+reversed_trees values lock crash names threads = map (λ t. thread_tree values lock crash names t) (reverse threads)
 
 -- the one at a place first, and then the others
-abbrev pub placed_trees : LockState → Option Crash → List ThreadName → List ThreadFront → Option ℕ → List Data
-placed_trees lock crash names threads None = reversed_trees lock crash names threads
-placed_trees lock crash names threads (Some i) = reversed_trees lock crash names (take 1 (drop i threads))
-    ++ (reversed_trees lock crash names (drop (i + 1) threads) ++ reversed_trees lock crash names (take i threads))
+abbrev pub placed_trees : ShownValues → LockState → Option Crash → List ThreadName → List ThreadFront → Option ℕ
+    → List Data
+placed_trees values lock crash names threads None = reversed_trees values lock crash names threads
+placed_trees values lock crash names threads (Some i) = reversed_trees values lock crash names (take 1 (drop i threads))
+    ++ (reversed_trees values lock crash names (drop (i + 1) threads)
+    ++ reversed_trees values lock crash names (take i threads))
 
 -- the first one that got the signal, where there is one, and then the others from the last to the first
-abbrev pub ordered_trees : LockState → Option Crash → List ThreadName → List ThreadFront → List Data
-ordered_trees lock crash names threads =
-    placed_trees lock crash names threads (position (λ thread. is_crashed crash thread) threads)
+abbrev pub ordered_trees : ShownValues → LockState → Option Crash → List ThreadName → List ThreadFront → List Data
+ordered_trees values lock crash names threads =
+    placed_trees values lock crash names threads (position (λ thread. is_crashed crash thread) threads)
 
-abbrev pub threads_tree : LockState → Option Crash → List ThreadName → List ThreadFront → Data
-threads_tree lock crash names threads = array (items_of (ordered_trees lock crash names threads))
+abbrev pub threads_tree : ShownValues → LockState → Option Crash → List ThreadName → List ThreadFront → Data
+threads_tree values lock crash names threads = array (items_of (ordered_trees values lock crash names threads))

@@ -9,23 +9,32 @@ use crate::kind::{address_value, end_value, lock_value};
 use crate::thread::threads_value;
 use elf64_core::Text;
 use py_fronts::{Crash, Looked, SalvagedInterpreter, first_crashed};
+use repr_json::ShownValues;
 use serde_json::{Value, json};
 use std::alloc::{AllocError, Global};
 use thread_names::{InterpreterNames, threads_named};
 
 fn interpreter_value(
     alloc: Global,
+    kept: &ShownValues,
     crash: Option<Crash>,
     names: &[InterpreterNames],
     interpreter: &SalvagedInterpreter,
 ) -> Result<Value, AllocError>
-    ensures { IfOk result (λ value. view value ≡ interpreter_tree crash names.now interpreter.now) }
+    ensures { IfOk result (λ value. view value ≡ interpreter_tree kept.now crash names.now interpreter.now) }
 {
     let front = &interpreter.front;
     let address = address_value(alloc, front.address)?;
     let lock = lock_value(alloc, interpreter.lock)?;
     let told = threads_named(names, front.address);
-    let threads = threads_value(alloc, interpreter.lock, crash, told, &front.threads.threads)?;
+    let threads = threads_value(
+        alloc,
+        kept,
+        interpreter.lock,
+        crash,
+        told,
+        &front.threads.threads,
+    )?;
     let threads_end = end_value(alloc, front.threads.end)?;
     json!(in alloc; {
         "address": address,
@@ -40,15 +49,16 @@ fn interpreter_value(
 fn add_interpreters(
     alloc: Global,
     values: &mut Vec<Value>,
+    kept: &ShownValues,
     crash: Option<Crash>,
     names: &[InterpreterNames],
     interpreters: &[SalvagedInterpreter],
 ) -> Result<(), AllocError>
     ensures { OnOk result (map view values.new.items
-        ≡ map view values.old.items ++ interpreter_trees crash names.now interpreters.now) }
+        ≡ map view values.old.items ++ interpreter_trees kept.now crash names.now interpreters.now) }
 {
     for interpreter in interpreters {
-        values.push(interpreter_value(alloc, crash, names, interpreter)?)?;
+        values.push(interpreter_value(alloc, kept, crash, names, interpreter)?)?;
     }
     Ok(())
 }
@@ -57,37 +67,54 @@ fn add_interpreters(
 fn add_ordered(
     alloc: Global,
     values: &mut Vec<Value>,
+    kept: &ShownValues,
     crash: Option<Crash>,
     names: &[InterpreterNames],
     interpreters: &[SalvagedInterpreter],
 ) -> Result<(), AllocError>
     ensures { OnOk result (map view values.new.items
-        ≡ map view values.old.items ++ ordered_trees crash names.now interpreters.now) }
+        ≡ map view values.old.items ++ ordered_trees kept.now crash names.now interpreters.now) }
 {
     let Some(index) = first_crashed(crash, interpreters) else {
-        return add_interpreters(alloc, values, crash, names, interpreters);
+        return add_interpreters(alloc, values, kept, crash, names, interpreters);
     };
-    add_interpreters(alloc, values, crash, names, &interpreters[index..index + 1])?;
-    add_interpreters(alloc, values, crash, names, &interpreters[..index])?;
-    add_interpreters(alloc, values, crash, names, &interpreters[index + 1..])
+    add_interpreters(
+        alloc,
+        values,
+        kept,
+        crash,
+        names,
+        &interpreters[index..index + 1],
+    )?;
+    add_interpreters(alloc, values, kept, crash, names, &interpreters[..index])?;
+    add_interpreters(
+        alloc,
+        values,
+        kept,
+        crash,
+        names,
+        &interpreters[index + 1..],
+    )
 }
 
 /// What is left of some interpreters: an array, in the order of `salvage_texts::salvaged_text`, each an object with its
 /// lock, its threads and how their chain ends, each thread with its marks, its frames and how these end, and with the
-/// name that is told of its id in its interpreter, or null.
+/// name that is told of its id in its interpreter, or null. A local has the text and the tree that are kept for the address
+/// of its value, or null.
 ///
 /// The keys of an object stand in the order of their bytes; an address is a text in hexadecimal digits, and an end, a
 /// lock or a cause is an object with its kind. The one error is want of memory.
 pub fn interpreters_value(
     alloc: Global,
+    kept: &ShownValues,
     crash: Option<Crash>,
     names: &[InterpreterNames],
     interpreters: &[SalvagedInterpreter],
 ) -> Result<Value, AllocError>
-    ensures { IfOk result (λ value. view value ≡ interpreters_tree crash names.now interpreters.now) }
+    ensures { IfOk result (λ value. view value ≡ interpreters_tree kept.now crash names.now interpreters.now) }
 {
     let mut values = Vec::new(alloc);
-    add_ordered(alloc, &mut values, crash, names, interpreters)?;
+    add_ordered(alloc, &mut values, kept, crash, names, interpreters)?;
     Ok(Value::Array(values))
 }
 

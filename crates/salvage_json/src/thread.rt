@@ -8,6 +8,7 @@ ghost use Rattle.salvage_json.specs.Threads.{reversed_trees, thread_tree, thread
 use crate::kind::{address_value, end_value};
 use crate::member::standings_value;
 use py_fronts::{Crash, FramesFront, LockState, ThreadFront, crashed_at, holds_lock, is_crashed};
+use repr_json::ShownValues;
 use serde_json::{Value, json};
 use std::alloc::{AllocError, Global};
 use thread_names::{ThreadName, name_of};
@@ -32,12 +33,16 @@ fn name_value(alloc: Global, names: &[ThreadName], thread_id: u64) -> Result<Val
     }
 }
 
-fn frames_value(alloc: Global, frames: &FramesFront) -> Result<Value, AllocError>
-    ensures { IfOk result (λ value. view value ≡ frames_tree frames.now) }
+fn frames_value(
+    alloc: Global,
+    kept: &ShownValues,
+    frames: &FramesFront,
+) -> Result<Value, AllocError>
+    ensures { IfOk result (λ value. view value ≡ frames_tree kept.now frames.now) }
 {
     let end = end_value(alloc, frames.end)?;
-    let first = standings_value(alloc, &frames.first)?;
-    let last = standings_value(alloc, &frames.last)?;
+    let first = standings_value(alloc, kept, &frames.first)?;
+    let last = standings_value(alloc, kept, &frames.last)?;
     json!(in alloc; {
         "between": frames.between,
         "end": end,
@@ -49,15 +54,16 @@ fn frames_value(alloc: Global, frames: &FramesFront) -> Result<Value, AllocError
 
 fn thread_value(
     alloc: Global,
+    kept: &ShownValues,
     lock: LockState,
     crash: Option<Crash>,
     names: &[ThreadName],
     thread: &ThreadFront,
 ) -> Result<Value, AllocError>
-    ensures { IfOk result (λ value. view value ≡ thread_tree lock crash names.now thread.now) }
+    ensures { IfOk result (λ value. view value ≡ thread_tree kept.now lock crash names.now thread.now) }
 {
     let address = address_value(alloc, thread.address)?;
-    let frames = frames_value(alloc, &thread.frames)?;
+    let frames = frames_value(alloc, kept, &thread.frames)?;
     let name = name_value(alloc, names, thread.thread_id)?;
     let os_thread_id = id_value(alloc, thread.os_thread_id)?;
     let crashed = is_crashed(crash, thread);
@@ -77,16 +83,17 @@ fn thread_value(
 fn add_reversed(
     alloc: Global,
     values: &mut Vec<Value>,
+    kept: &ShownValues,
     lock: LockState,
     crash: Option<Crash>,
     names: &[ThreadName],
     threads: &[ThreadFront],
 ) -> Result<(), AllocError>
     ensures { OnOk result (map view values.new.items
-        ≡ map view values.old.items ++ reversed_trees lock crash names.now threads.now) }
+        ≡ map view values.old.items ++ reversed_trees kept.now lock crash names.now threads.now) }
 {
     for thread in threads.iter().rev() {
-        values.push(thread_value(alloc, lock, crash, names, thread)?)?;
+        values.push(thread_value(alloc, kept, lock, crash, names, thread)?)?;
     }
     Ok(())
 }
@@ -95,40 +102,51 @@ fn add_reversed(
 fn add_threads(
     alloc: Global,
     values: &mut Vec<Value>,
+    kept: &ShownValues,
     lock: LockState,
     crash: Option<Crash>,
     names: &[ThreadName],
     threads: &[ThreadFront],
 ) -> Result<(), AllocError>
     ensures { OnOk result (map view values.new.items
-        ≡ map view values.old.items ++ ordered_trees lock crash names.now threads.now) }
+        ≡ map view values.old.items ++ ordered_trees kept.now lock crash names.now threads.now) }
 {
     let Some(index) = crashed_at(crash, threads) else {
-        return add_reversed(alloc, values, lock, crash, names, threads);
+        return add_reversed(alloc, values, kept, lock, crash, names, threads);
     };
     add_reversed(
         alloc,
         values,
+        kept,
         lock,
         crash,
         names,
         &threads[index..index + 1],
     )?;
-    add_reversed(alloc, values, lock, crash, names, &threads[index + 1..])?;
-    add_reversed(alloc, values, lock, crash, names, &threads[..index])
+    add_reversed(
+        alloc,
+        values,
+        kept,
+        lock,
+        crash,
+        names,
+        &threads[index + 1..],
+    )?;
+    add_reversed(alloc, values, kept, lock, crash, names, &threads[..index])
 }
 
 /// An interpreter's threads.
 pub(crate) fn threads_value(
     alloc: Global,
+    kept: &ShownValues,
     lock: LockState,
     crash: Option<Crash>,
     names: &[ThreadName],
     threads: &[ThreadFront],
 ) -> Result<Value, AllocError>
-    ensures { IfOk result (λ value. view value ≡ threads_tree lock crash names.now threads.now) }
+    ensures { IfOk result (λ value. view value ≡ threads_tree kept.now lock crash names.now threads.now) }
 {
     let mut values = Vec::new(alloc);
-    add_threads(alloc, &mut values, lock, crash, names, threads)?;
+    add_threads(alloc, &mut values, kept, lock, crash, names, threads)?;
     Ok(Value::Array(values))
 }

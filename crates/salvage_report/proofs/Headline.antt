@@ -1,7 +1,7 @@
 -- What status 0 tells where a core is asked for.
 use Rattle.std.proofs.Common.{◌≡◌, ◌≢◌, ℕ, List, [], ◌∷◌, ◌++◌, Ok, Err}
-use Rattle.std.proofs.Common.{Some, None, inl, inr, ap, sym, subst, true, false, refl, ◌∙◌}
-use Rattle.std.specs.Prelude.{Option, Bool, codes}
+use Rattle.std.proofs.Common.{Some, None, inl, inr, ap, sym, subst, true, false, refl, ne_eqb, ◌∙◌}
+use Rattle.std.specs.Prelude.{Option, Bool, codes, nat_eq, not}
 use Rattle.std.specs.Io.KnownBytes.{Appends}
 use Rattle.std.proofs.lemmas.Option.{same_Some}
 use Rattle.outside.specs.Files.{Told}
@@ -17,7 +17,7 @@ use Rattle.salvage_words.specs.Salvage.{Salvage, Wanted}
 use Rattle.salvage_words.specs.Salvage.Wanted.{salvage}
 use Rattle.salvage_report.specs.declared.cause.Cause.{Cause}
 use Rattle.salvage_report.specs.Headline.{AreTables, HasSalvaged, SaysLayout, SaysNames, SaysRegisters}
-use Rattle.salvage_report.specs.Headline.{SaysExceptions, SaysNative, SaysSignal, SaysTasks}
+use Rattle.salvage_report.specs.Headline.{SaysExceptions, SaysNative, SaysSignal, SaysTasks, SaysValues}
 use Rattle.memory_sections.specs.Told.{ToldIf}
 use Rattle.py_fronts.specs.declared.search.Looked.{Looked}
 use Rattle.salvage_report.specs.Outcome.{IsCoreOutcome, IsOutcomeBy, IsSalvagedBy, Outcome, shown_or_none}
@@ -38,6 +38,8 @@ use Rattle.py_process.specs.Reports.{memory_in}
 use Rattle.memory_sections.specs.Pythons.{python_threads}
 use Rattle.salvage_report.specs.Sections.{if_asked, own_id}
 use Rattle.salvage_report.specs.Texts.{shown_left}
+use Rattle.shown_values.specs.Values.{AreShown}
+use Rattle.local_values.specs.Addresses.{shown_addresses}
 
 no_text : (s : List ℕ) (cause : Cause) → ◌≡◌ {A = Outcome} (Ok s) (Err cause) → ⊥
 no_text s cause is = cc
@@ -182,3 +184,17 @@ pub says_native : (s : Salvage) (told : Told) (old new : SinkSeen) → HasSalvag
 says_native s told old new h asked =
     let one = told_one s.sections.native _ h.left.memory.native h.is_left.memory.native asked in
     record { has = h; stacks = one.0; is = one.1; are = one.2 }
+
+pub says_values : (s : Salvage) (told : Told) (old new : SinkSeen) → HasSalvaged s told old new
+    → s.locals ≢ 0 → SaysValues s told old new
+says_values s told old new h asked =
+    let one = told_one (not (nat_eq s.locals 0)) _ h.left.memory.values h.is_left.memory.values
+    (ap not (ne_eqb s.locals 0 asked)) in
+    record {
+      has = h;
+      values = one.0;
+      is = one.1;
+      are = one.2;
+      shown = subst (λ values. AreShown s.json values (shown_addresses h.left.salvaged.interpreters.items) h.left.values)
+          one.1 h.is_left.values;
+    }

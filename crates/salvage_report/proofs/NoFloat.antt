@@ -1,7 +1,9 @@
 -- The tree of all that is told has no float.
-use Rattle.std.proofs.Common.{◌≡◌, ℕ, ℤ, false, List, Option, Some, None, Result, Ok, Err, refl}
+use Rattle.std.proofs.Common.{◌≡◌, ℕ, ℤ, Bool, false, List, Option, Some, None, Result, Ok, Err, refl}
 use Rattle.std.specs.Prelude.{◌||◌, codes}
-use Rattle.serde_json.specs.Written.{has_float}
+use Rattle.serde_json.specs.Data.{boolean, member, no_members, string}
+use Rattle.serde_json.specs.Written.{has_float, members_have_float}
+use Rattle.repr_json.specs.Shown.{HasNoFloat}
 use Rattle.crash_signal.specs.Tables.{meaning_of, name_of}
 use Rattle.crash_signal.specs.Trees.{call_tree, cause_tree, fault_tree}
 use Rattle.crash_signal.specs.Trees.{plain_tree, sender_tree, signal_tree, untold_tree}
@@ -23,8 +25,9 @@ use Rattle.py_selftest.specs.Checking.{CheckShown}
 use Rattle.py_selftest.specs.Trees.{check_tree}
 use Rattle.py_selftest.proofs.Plain.{no_float as checked}
 use Rattle.salvage_report.specs.LayoutChecked.{check_of}
-use Rattle.salvage_report.specs.Tree.{left_tree, missing_tree, section_tree}
+use Rattle.salvage_report.specs.Tree.{left_tree, missing_tree, section_tree, told_version}
 use Rattle.salvage_report.specs.Sections.{missing_shown, registers_shown}
+use Rattle.shown_values.specs.LeftOut.{values_left_out, with_left_out}
 use Rattle.salvage_report.specs.declared.left.Left.{Left}
 
 -- ---- how the signal came about
@@ -87,11 +90,19 @@ check_section (Some told) = checked told
 pub missing_no_float : (told : RefusedTold) → has_float (missing_tree told) ≡ false
 missing_no_float told = λ i. missed told i || false
 
-pub no_float : (limit : ℕ) (left : Left) → has_float (left_tree limit left) ≡ false
-no_float limit left = λ i. exceptions left.memory.exceptions i
-    || (interpreters left.salvaged.crash (names_given left.memory.names) left.salvaged.interpreters.items i
+-- the key that says how many values are left out
+counted : (count : Option ℕ) (version : List ℕ) (named : Bool)
+    → members_have_float (with_left_out count (member (codes "version") (string version)
+    (member (codes "version_by_names") (boolean named) no_members))) ≡ false
+counted None version named = refl
+counted (Some n) version named = refl
+
+pub no_float : (limit : ℕ) (left : Left) → HasNoFloat left.values → has_float (left_tree limit left) ≡ false
+no_float limit left plain = λ i. exceptions left.memory.exceptions i
+    || (interpreters left.values plain left.salvaged.crash (names_given left.memory.names)
+    left.salvaged.interpreters.items i
     || (check_section (check_of left.check) i || (missing_section (missing_shown left.told.missing) i
     || (false || (names left.memory.names i || (native limit left.memory.native i || (process left.process
     i || (threads_section (registers_shown left.told.registers) i || (ended left.salvaged.looked i
     || (signal left.signal i || (info_section left.told.signal i || (tasks left.memory.tasks i
-    || (false || (false || false))))))))))))))
+    || counted (values_left_out left.memory.values) (told_version left.named left.version) left.named i))))))))))))

@@ -22,6 +22,9 @@ use Rattle.py_fronts.specs.declared.crash.Crash.{Crash}
 use Rattle.py_fronts.specs.declared.salvaged.Salvaged.{Salvaged}
 use Rattle.py_fronts.specs.declared.salvaged.SalvagedInterpreter.{SalvagedInterpreter}
 use Rattle.salvage_words.specs.Salvage.{Salvage}
+use Rattle.local_values.specs.Addresses.{shown_addresses}
+use Rattle.repr_json.specs.declared.shown.ShownValues.{ShownValues}
+use Rattle.shown_values.specs.Values.{AreShown}
 use Rattle.salvage_report.specs.declared.cause.Cause.TheVariants.{NoInterpreter}
 use Rattle.salvage_report.specs.declared.left.Left.{Left}
 use Rattle.salvage_report.specs.declared.sections.Told.{Told}
@@ -58,8 +61,10 @@ module _ (s : Salvage) (ts : List RecordTable) (p : Process) (crash : Option Cra
     (sections : Told) (are : AreTold s.sections p.dump.core p.notes.process salvaged.interpreters.items sections)
     (check : Option LayoutCheck)
     (checks : CheckIs s.sections.check_layout p.dump.core (process_checked p salvaged.interpreters.items) check)
-    (memory : MemoryTold) (reads : AreMemoryTold s.sections p.dump.core images p.layout (records_of ts p.version)
-    (byte_at (regions_of p.dump)) salvaged.interpreters.items memory) where
+    (memory : MemoryTold) (reads : AreMemoryTold s.sections s.locals p.dump.core images (known_of p.info) p.layout
+    (records_of ts p.version) (byte_at (regions_of p.dump)) salvaged.interpreters.items memory)
+    (values : ShownValues)
+    (shows : AreShown s.json memory.values (shown_addresses salvaged.interpreters.items) values) where
   abbrev opened : OpenedProcess
   opened = opened_of is.maps p
 
@@ -73,6 +78,7 @@ module _ (s : Salvage) (ts : List RecordTable) (p : Process) (crash : Option Cra
     told = sections;
     check = check;
     memory = memory;
+    values = values;
   }
 
   abbrev over : (ℕ → Bool) → List ℕ → Option Crash → SalvagedShown
@@ -96,8 +102,9 @@ module _ (s : Salvage) (ts : List RecordTable) (p : Process) (crash : Option Cra
     told = subst (λ core. AreTold s.sections core p.notes.process salvaged.interpreters.items sections) is.same are;
     check = subst (λ core. CheckIs s.sections.check_layout core (process_checked p salvaged.interpreters.items) check)
         is.same checks;
-    memory = subst (λ core. AreMemoryTold s.sections core images p.layout (records_of ts p.version)
-        (byte_at (regions_of p.dump)) salvaged.interpreters.items memory) is.same reads;
+    memory = subst (λ core. AreMemoryTold s.sections s.locals core images (known_of p.info) p.layout
+        (records_of ts p.version) (byte_at (regions_of p.dump)) salvaged.interpreters.items memory) is.same reads;
+    values = shows;
   }
 
   pub none_left : salvaged.interpreters.items ≡ []

@@ -37,6 +37,12 @@ use Rattle.salvage_report.specs.Pointers.{pointers_of}
 use Rattle.memory_sections.specs.Pythons.{python_threads}
 use Rattle.salvage_report.specs.Sections.{own_id, registers_shown}
 use Rattle.salvage_report.specs.Texts.{shown_left}
+use Rattle.repr_types.specs.Symbols.{repr_types_at}
+use Rattle.local_values.specs.Addresses.{shown_addresses}
+use Rattle.local_values.specs.Values.{AreLocalValues}
+use Rattle.local_values.specs.declared.values.LocalValues.{LocalValues}
+use Rattle.memory_sections.specs.Locals.{levels_of}
+use Rattle.shown_values.specs.Values.{AreShown}
 
 -- the tables that a file of records says, and none where there is no file
 abbrev pub AreTables : List (List ℕ) → List RecordTable → Type 0
@@ -137,3 +143,15 @@ pub record SaysNative (s : Salvage) (told : Told) (old new : SinkSeen) : Type 0 
   pub is : has.left.memory.native ≡ Some stacks
   pub are : AreNative s.sections.strict has.core (images_read s.images has.images) (memory_in has.opened.dumped)
       (python_threads has.left.salvaged.interpreters.items) stacks
+
+-- The values of the locals of the frames that are shown, by so many `-l`: those of memory, by the types that the symbols
+-- of the process's images name (`repr_at` of py_reprs), and of each its text and, where JSON is asked for, its JSON
+-- (`Writes` of repr_texts, `IsJson` of repr_json).
+pub record SaysValues (s : Salvage) (told : Told) (old new : SinkSeen) : Type 0 where
+  pub has : HasSalvaged s told old new
+  pub values : LocalValues
+  pub is : has.left.memory.values ≡ Some values
+  pub are : AreLocalValues has.opened.layout
+      (repr_types_at has.opened.known has.opened.layout (memory_in has.opened.dumped)) (levels_of s.locals)
+      (memory_in has.opened.dumped) has.left.salvaged.interpreters.items values
+  pub shown : AreShown s.json (Some values) (shown_addresses has.left.salvaged.interpreters.items) has.left.values

@@ -34,6 +34,8 @@ pub use Rattle.program_run.specs.Statuses.{core_status, layouts_status}
 use Rattle.salvage_report.specs.LayoutChecked.{CheckIs, layout_checked}
 use Rattle.salvage_report.specs.Sections.{AreTold}
 use Rattle.salvage_report.specs.Texts.{shown_left}
+use Rattle.shown_values.specs.Values.{AreShown}
+use Rattle.local_values.specs.Addresses.{shown_addresses}
 use Rattle.std.specs.Prelude.{map}
 
 -- a text, or the cause why there is none
@@ -70,8 +72,9 @@ pub record IsLeft (s : Salvage) (ts : List RecordTable) (bytes : List ℕ) (imag
   pub salvaged : salvaged_of left.salvaged ≡ left_at s bytes o left.salvaged.crash
   pub told : AreTold s.sections bytes left.process left.salvaged.interpreters.items left.told
   pub check : CheckIs s.sections.check_layout bytes (layout_checked o left.salvaged.interpreters.items) left.check
-  pub memory : AreMemoryTold s.sections bytes images o.layout (records_of ts o.version) (memory_in o.dumped)
-      left.salvaged.interpreters.items left.memory
+  pub memory : AreMemoryTold s.sections s.locals bytes images o.known o.layout (records_of ts o.version)
+      (memory_in o.dumped) left.salvaged.interpreters.items left.memory
+  pub values : AreShown s.json left.memory.values (shown_addresses left.salvaged.interpreters.items) left.values
 
 -- the text, or that no interpreter is shown, with what was looked at
 abbrev pub shown_or_none : List SalvagedInterpreter → Looked → List ℕ → Outcome

@@ -17,6 +17,7 @@ use Rattle.salvage_report.specs.Tree.{left_json}
 use Rattle.py_selftest.specs.Text.{check_text}
 use Rattle.salvage_report.specs.LayoutChecked.{check_of}
 use Rattle.salvage_report.specs.Sections.{registers_shown}
+use Rattle.shown_values.specs.LeftOut.{left_out_text, values_left_out}
 use Rattle.salvage_report.specs.declared.left.Left.{Left}
 
 -- the process that a core tells, by its id and arguments, where it tells one; what could end the line is escaped
@@ -41,13 +42,14 @@ section_text text None = []
 section_text text (Some told) = text told
 
 -- the signal, beside the core's name, and how it came about; the process, the version, and what is left; what is told in
--- the sections that are read in memory; the registers, and what the process says of the layout
+-- the sections that are read in memory; the registers, what the process says of the layout, and how many values of
+-- locals are left out
 abbrev pub left_text : List ℕ → (limit : ℕ) → Left → List ℕ
 left_text core limit left = signal_text (core_name core) left.signal ++ (section_text info_text left.told.signal
     ++ (process_text left.process ++ (version_line left.named left.version
-    ++ (salvaged_text (names_given left.memory.names) left.salvaged ++ (memory_text limit left.memory
+    ++ (salvaged_text left.values (names_given left.memory.names) left.salvaged ++ (memory_text limit left.memory
     ++ (section_text threads_text (registers_shown left.told.registers)
-    ++ section_text check_text (check_of left.check)))))))
+    ++ (section_text check_text (check_of left.check) ++ left_out_text (values_left_out left.memory.values))))))))
 
 -- that, or JSON where it is asked for
 abbrev pub shown_left : Salvage → Left → List ℕ
@@ -64,7 +66,7 @@ help_text = codes "pysalvage CORE --layouts FILE [--records FILE] [-n N] [-l].. 
     ++ (codes "--layouts FILE  the layout file\n"
     ++ (codes "--records FILE  where the fields are that sections need beyond the layouts\n"
     ++ (codes "-n N            the first N frames of a thread and the last N, from 1 to 4096; 100 unless it is said\n"
-    ++ (codes "-l              the locals of each frame\n"
+    ++ (codes "-l              the locals of each frame with their values; more of each value by each more, up to five\n"
     ++ (codes "-j              JSON in place of text\n"
     ++ (codes "--signal        how the signal came about\n"
     ++ (codes "--registers     the registers of each thread, and which of Python's threads it is\n"

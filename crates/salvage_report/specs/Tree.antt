@@ -1,5 +1,5 @@
 -- The JSON of what is left of a process, and of what is told in its sections: one object, which has the key of each
--- section, null where it isn't asked for.
+-- section, null where it isn't asked for; how many values of locals are left out has a key where values are asked for.
 use Rattle.std.specs.Prelude.{ℕ, ◌++◌, Bool, true, false, List, map, Option, Some, None, codes, decimal}
 use Rattle.json.specs.Layout.{pretty}
 use Rattle.json.specs.Tree.{json_tokens}
@@ -16,6 +16,7 @@ use Rattle.missed_reads.specs.Told.{RefusedTold, missed_tree}
 use Rattle.py_selftest.specs.Trees.{check_tree}
 use Rattle.salvage_report.specs.LayoutChecked.{check_of}
 use Rattle.salvage_report.specs.Sections.{missing_shown, registers_shown}
+use Rattle.shown_values.specs.LeftOut.{values_left_out, with_left_out}
 use Rattle.salvage_report.specs.declared.left.Left.{Left}
 
 -- a section's value, or null
@@ -27,7 +28,7 @@ section_tree tree (Some told) = tree told
 abbrev pub first_members : (limit : ℕ) → Left → Members
 first_members limit left =
     member (codes "exceptions") (exceptions_tree_if left.memory.exceptions) (
-    member (codes "interpreters") (interpreters_tree left.salvaged.crash (names_given left.memory.names)
+    member (codes "interpreters") (interpreters_tree left.values left.salvaged.crash (names_given left.memory.names)
     left.salvaged.interpreters.items) (
     member (codes "layout_check") (section_tree check_tree (check_of left.check)) (
     member (codes "missing") (section_tree missed_tree (missing_shown left.told.missing)) (
@@ -44,7 +45,7 @@ told_version true v = decimal v.major ++ (codes "." ++ decimal v.minor)
 abbrev pub left_tree : (limit : ℕ) → Left → Data
 left_tree limit left = object (
     member (codes "exceptions") (exceptions_tree_if left.memory.exceptions) (
-    member (codes "interpreters") (interpreters_tree left.salvaged.crash (names_given left.memory.names)
+    member (codes "interpreters") (interpreters_tree left.values left.salvaged.crash (names_given left.memory.names)
     left.salvaged.interpreters.items) (
     member (codes "layout_check") (section_tree check_tree (check_of left.check)) (
     member (codes "missing") (section_tree missed_tree (missing_shown left.told.missing)) (
@@ -57,8 +58,9 @@ left_tree limit left = object (
     member (codes "signal") (signal_tree left.signal) (
     member (codes "signal_info") (section_tree info_tree left.told.signal) (
     member (codes "tasks") (tasks_tree_if left.memory.tasks) (
+    with_left_out (values_left_out left.memory.values) (
     member (codes "version") (string (told_version left.named left.version)) (
-    member (codes "version_by_names") (boolean left.named) no_members)))))))))))))))
+    member (codes "version_by_names") (boolean left.named) no_members))))))))))))))))
 
 -- the text of a tree: each item and member on a line of its own, two spaces deeper for each bracket
 abbrev pub pretty_text : Data → List ℕ

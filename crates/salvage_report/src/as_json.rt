@@ -6,6 +6,7 @@ ghost use Rattle.crash_signal.specs.Trees.{signal_tree as info_tree};
 ghost use Rattle.thread_registers.specs.Trees.{threads_tree};
 ghost use Rattle.missed_reads.specs.Told.{missed_tree, told_of};
 ghost use Rattle.py_selftest.specs.Trees.{check_tree};
+ghost use Rattle.repr_json.specs.Shown.{HasNoFloat};
 ghost use Rattle.salvage_report.specs.LayoutChecked.{check_of};
 ghost use Rattle.salvage_report.specs.Tree.{first_members, left_json, left_tree, missing_json};
 ghost use Rattle.salvage_report.specs.Tree.{missing_tree, pretty_text, section_tree, told_version};
@@ -19,6 +20,7 @@ use py_layout::Version;
 use py_selftest::{LayoutCheck, check_value};
 use salvage_json::{ended_value, interpreters_value, process_value, signal_value};
 use serde_json::{Map, Value, json, put};
+use shown_values::put_left_out;
 use std::alloc::{AllocError, Global};
 use thread_registers::{ThreadRegisters, threads_value};
 
@@ -83,7 +85,13 @@ fn first_members(alloc: Global, limit: usize, left: &Left) -> Result<Map<String,
     let salvaged = &left.salvaged;
     let exceptions = exceptions_value(alloc, &left.memory)?;
     let told = names_told(&left.memory);
-    let interpreters = interpreters_value(alloc, salvaged.crash, told, &salvaged.interpreters)?;
+    let interpreters = interpreters_value(
+        alloc,
+        &left.values,
+        salvaged.crash,
+        told,
+        &salvaged.interpreters,
+    )?;
     let layout_check = layout_value(alloc, &left.check)?;
     let missing = missing_value(alloc, &left.told.missing)?;
     let names = names_value(alloc, &left.memory)?;
@@ -116,6 +124,7 @@ fn left_value(alloc: Global, limit: usize, left: &Left) -> Result<Value, AllocEr
     put(&mut map, alloc, "signal", signal)?;
     put(&mut map, alloc, "signal_info", signal_info)?;
     put(&mut map, alloc, "tasks", tasks)?;
+    put_left_out(alloc, &mut map, &left.memory.values)?;
     put(&mut map, alloc, "version", Value::String(version))?;
     put(&mut map, alloc, "version_by_names", Value::Bool(left.named))?;
     Ok(Value::Object(map))
@@ -133,6 +142,7 @@ fn pretty(alloc: Global, value: &Value) -> Result<String, AllocError>
 /// of a section that isn't asked for is null. Of a native stack the first and the last `limit` frames are there. The one
 /// error is want of memory.
 pub(crate) fn left_json(alloc: Global, limit: usize, left: &Left) -> Result<String, AllocError>
+    requires { HasNoFloat left.now.values }
     ensures { IfOk result (λ text. string_bytes text ≡ left_json limit left.now) }
 {
     let value = left_value(alloc, limit, left)?;

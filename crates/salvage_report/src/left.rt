@@ -4,6 +4,7 @@ ghost use Rattle.image_memory.specs.Backed.{regions_of};
 ghost use Rattle.process_memory.specs.Memory.{byte_at};
 ghost use Rattle.py_fields.specs.Sound.{IsSound};
 ghost use Rattle.py_records.specs.Versions.{records_of};
+ghost use Rattle.py_process.specs.Facts.{known_of};
 ghost use Rattle.memory_sections.specs.Told.{AreMemoryTold};
 ghost use Rattle.salvage_words.specs.Seen.{asked_salvage};
 ghost use Rattle.salvage_report.specs.Outcome.{IsAnswer, IsCoreOutcome, IsSalvagedBy};
@@ -30,7 +31,9 @@ use py_process::CoreError;
 use py_records::RecordTables;
 use py_selftest::LayoutCheck;
 use py_stacks::{Asked, LineNo, StackError};
+use repr_json::ShownValues;
 use salvage_words::{SalvageWords, Sections};
+use shown_values::shown_values;
 use std::alloc::{AllocError, Global};
 
 /// What is left of a process: the signal that its core tells and the process, the version, what is left of its
@@ -48,6 +51,8 @@ pub(crate) struct Left {
     pub(crate) check: Option<LayoutCheck>,
     /// What is told in the sections that are read in its memory.
     pub(crate) memory: MemoryTold,
+    /// The values of locals, as they are shown.
+    pub(crate) values: ShownValues,
 }
 
 /// What is left of the interpreters of a process. Reads that are refused are kept.
@@ -84,6 +89,7 @@ fn salvaged_of(
 fn memory_of(
     alloc: Global,
     asked: Sections,
+    times: u64,
     tables: &RecordTables,
     images: &Images,
     process: &Process,
@@ -91,13 +97,15 @@ fn memory_of(
     misses: &mut Misses,
 ) -> Result<MemoryTold, AllocError>
     requires sound { IsSound process.now.layout }
-    ensures { IfOk result (AreMemoryTold asked process.now.dump.core images.now process.now.layout
-        (records_of tables.now process.now.version) (byte_at (regions_of process.now.dump)) interpreters.now) }
+    ensures { IfOk result (AreMemoryTold asked times process.now.dump.core images.now (known_of process.now.info)
+        process.now.layout (records_of tables.now process.now.version) (byte_at (regions_of process.now.dump))
+        interpreters.now) }
 {
     let records = tables.records_of(&process.version);
     tell_memory(
         alloc,
         asked,
+        times,
         images,
         process,
         &records,
@@ -131,6 +139,7 @@ fn shown_left(
     let memory = memory_of(
         alloc,
         words.sections,
+        words.locals,
         tables,
         images,
         &process,
@@ -146,6 +155,7 @@ fn shown_left(
         &salvaged.interpreters,
         misses,
     )?;
+    let values = shown_values(alloc, words.json, &memory.values, &salvaged.interpreters)?;
     if salvaged.interpreters.is_empty() {
         let (addresses, members) = (salvaged.looked.addresses, salvaged.looked.members);
         return Err(Cause::NoInterpreter { addresses, members });
@@ -161,6 +171,7 @@ fn shown_left(
         told,
         check,
         memory,
+        values,
     };
     Ok(shown(alloc, words, &left)?)
 }

@@ -5,6 +5,7 @@ ghost use Rattle.salvage_words.specs.Seen.{asked_salvage};
 ghost use Rattle.crash_signal.specs.Text.{signal_text as info_text};
 ghost use Rattle.thread_registers.specs.Text.{threads_text};
 ghost use Rattle.py_selftest.specs.Text.{check_text};
+ghost use Rattle.repr_json.specs.Shown.{HasNoFloat};
 ghost use Rattle.salvage_report.specs.LayoutChecked.{check_of};
 ghost use Rattle.salvage_report.specs.Sections.{registers_shown};
 ghost use Rattle.salvage_report.specs.Texts.{core_name, left_text, process_text, section_text, shown_left};
@@ -19,6 +20,7 @@ use py_layout::Version;
 use py_selftest::LayoutCheck;
 use salvage_texts::{push_escaped, salvaged_text};
 use salvage_words::SalvageWords;
+use shown_values::push_left_out;
 use std::alloc::{AllocError, Global};
 use thread_registers::{ThreadRegisters, push_threads};
 
@@ -113,16 +115,23 @@ fn left_text(alloc: Global, core: &Name, limit: usize, left: &Left) -> Result<Ve
     push_info(&mut text, &left.told.signal)?;
     push_process(alloc, &mut text, &left.process)?;
     push_version(&mut text, left.named, &left.version)?;
-    let salvaged = salvaged_text(alloc, names_told(&left.memory), &left.salvaged)?;
+    let salvaged = salvaged_text(
+        alloc,
+        &left.values,
+        names_told(&left.memory),
+        &left.salvaged,
+    )?;
     text.push_str(salvaged.as_str())?;
     push_memory(alloc, &mut text, limit, &left.memory)?;
     push_registers(&mut text, &left.told.registers)?;
     push_check(&mut text, &left.check)?;
+    push_left_out(&mut text, &left.memory.values)?;
     Ok(text.into_bytes())
 }
 
 /// What is left, as the words ask for it.
 pub(crate) fn shown(alloc: Global, words: &SalvageWords, left: &Left) -> Result<Vec<u8>, AllocError>
+    requires { HasNoFloat left.now.values }
     ensures { IfOk result (λ text. text.items ≡ shown_left (asked_salvage words.now) left.now) }
 {
     if words.json {

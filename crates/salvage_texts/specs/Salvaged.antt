@@ -15,6 +15,7 @@ use Rattle.thread_names.specs.declared.names.InterpreterNames.{InterpreterNames}
 use Rattle.salvage_texts.specs.Ends.{missing_text, threads_end_text}
 use Rattle.py_fronts.specs.Salvaged.{first_crashed}
 use Rattle.salvage_texts.specs.Threads.{threads_text}
+use Rattle.repr_json.specs.declared.shown.ShownValues.{ShownValues}
 
 abbrev pub searched_text : Bool → List ℕ
 searched_text searched = if searched then codes " (found by search)" else []
@@ -30,23 +31,27 @@ abbrev pub lock_text : LockState → List ℕ
 lock_text (Holder holder) = []
 lock_text (Unreadable addr len) = codes "... lock " ++ (missing_text addr len ++ codes "\n")
 
-abbrev pub interpreter_text : Bool → Option Crash → List InterpreterNames → SalvagedInterpreter → List ℕ
-interpreter_text several crash names i = heading_text several i.front ++ (lock_text i.lock
-    ++ (threads_end_text i.front.threads.end ++ threads_text i.lock crash
+abbrev pub interpreter_text : ShownValues → Bool → Option Crash → List InterpreterNames → SalvagedInterpreter → List ℕ
+interpreter_text values several crash names i = heading_text several i.front ++ (lock_text i.lock
+    ++ (threads_end_text i.front.threads.end ++ threads_text values i.lock crash
     (threads_named names i.front.address) i.front.threads.threads.items))
 
-abbrev pub interpreters_text : Bool → Option Crash → List InterpreterNames → List SalvagedInterpreter → List ℕ
-interpreters_text several crash names is = concat (map (λ i. interpreter_text several crash names i) is)
-
-abbrev pub placed_interpreters : Bool → Option Crash → List InterpreterNames → List SalvagedInterpreter → Option ℕ
+abbrev pub interpreters_text : ShownValues → Bool → Option Crash → List InterpreterNames → List SalvagedInterpreter
     → List ℕ
-placed_interpreters several crash names is None = interpreters_text several crash names is
-placed_interpreters several crash names is (Some i) = interpreters_text several crash names (take 1 (drop i is))
-    ++ (interpreters_text several crash names (take i is) ++ interpreters_text several crash names (drop (i + 1) is))
+interpreters_text values several crash names is = concat (map (λ i. interpreter_text values several crash names i) is)
+
+abbrev pub placed_interpreters : ShownValues → Bool → Option Crash → List InterpreterNames → List SalvagedInterpreter
+    → Option ℕ → List ℕ
+placed_interpreters values several crash names is None = interpreters_text values several crash names is
+placed_interpreters values several crash names is (Some i) =
+    interpreters_text values several crash names (take 1 (drop i is))
+    ++ (interpreters_text values several crash names (take i is)
+    ++ interpreters_text values several crash names (drop (i + 1) is))
 
 -- the first one of which a thread got the signal, where there is one, and then the others in order
-abbrev pub ordered_text : Option Crash → List InterpreterNames → List SalvagedInterpreter → List ℕ
-ordered_text crash names is = placed_interpreters (nat_lt 1 (length is)) crash names is (first_crashed crash is)
+abbrev pub ordered_text : ShownValues → Option Crash → List InterpreterNames → List SalvagedInterpreter → List ℕ
+ordered_text values crash names is =
+    placed_interpreters values (nat_lt 1 (length is)) crash names is (first_crashed crash is)
 
 abbrev pub more_text : Bool → List ℕ
 more_text more = if more then codes "... more than 16 interpreters\n" else []
@@ -58,5 +63,6 @@ ended_text looked = if looked.ended
     ++ (decimal looked.addresses ++ codes " addresses\n")))
     else []
 
-abbrev pub salvaged_text : List InterpreterNames → Salvaged → List ℕ
-salvaged_text names s = ordered_text s.crash names s.interpreters.items ++ (more_text s.more ++ ended_text s.looked)
+abbrev pub salvaged_text : ShownValues → List InterpreterNames → Salvaged → List ℕ
+salvaged_text values names s = ordered_text values s.crash names s.interpreters.items
+    ++ (more_text s.more ++ ended_text s.looked)

@@ -14,6 +14,8 @@ use Rattle.salvage_texts.specs.Ends.{missing_text}
 use Rattle.salvage_texts.specs.Escape.{escaped}
 use Rattle.py_fronts.specs.Lines.{shown_line}
 use Rattle.salvage_texts.specs.Lines.{line_text}
+use Rattle.repr_json.specs.Shown.{text_in}
+use Rattle.repr_json.specs.declared.shown.ShownValues.{ShownValues}
 
 -- a frame's function, file and line
 abbrev pub frame_line : Frame → List ℕ
@@ -25,16 +27,22 @@ abbrev pub value_text : Option (List ℕ) → List ℕ
 value_text (Some value) = escaped false value
 value_text None = codes "?"
 
-abbrev pub local_text : LocalVariable → List ℕ
-local_text v = codes "        " ++ (escaped true v.name ++ (codes ": " ++ (value_text v.repr ++ codes "\n")))
+-- the text of a value that is kept, which has no line's end, or what stands where none is
+abbrev pub kept_text : Option (List ℕ) → (none : List ℕ) → List ℕ
+kept_text (Some text) none = text
+kept_text None none = none
 
-abbrev pub locals_text : List LocalVariable → List ℕ
-locals_text locals = concat (map (λ v. local_text v) locals)
+abbrev pub local_text : ShownValues → LocalVariable → List ℕ
+local_text values v = codes "        " ++ (escaped true v.name ++ (codes ": "
+    ++ (kept_text (text_in values v.addr) (value_text v.repr) ++ codes "\n")))
+
+abbrev pub locals_text : ShownValues → List LocalVariable → List ℕ
+locals_text values locals = concat (map (λ v. local_text values v) locals)
 
 -- the lines of locals, where they were asked for and are there
-abbrev pub shown_locals : Option (Vec LocalVariable Global) → List ℕ
-shown_locals None = []
-shown_locals (Some locals) = locals_text locals.items
+abbrev pub shown_locals : ShownValues → Option (Vec LocalVariable Global) → List ℕ
+shown_locals values None = []
+shown_locals values (Some locals) = locals_text values locals.items
 
 -- why a frame's locals can't be read
 abbrev pub fault_text : StackError → List ℕ
@@ -57,9 +65,10 @@ abbrev pub member_line : ObjectError → List ℕ
 member_line why = codes "    ? " ++ (why_text why ++ codes "\n")
 
 -- the lines of what stands for a member
-abbrev pub standing_text : Standing → List ℕ
-standing_text (standing.Frame frame fault) = frame_line frame ++ (shown_locals frame.locals ++ locals_fault fault)
-standing_text (standing.Member address why) = member_line why
+abbrev pub standing_text : ShownValues → Standing → List ℕ
+standing_text values (standing.Frame frame fault) =
+    frame_line frame ++ (shown_locals values frame.locals ++ locals_fault fault)
+standing_text values (standing.Member address why) = member_line why
 
-abbrev pub standings_text : List Standing → List ℕ
-standings_text standings = concat (map (λ s. standing_text s) standings)
+abbrev pub standings_text : ShownValues → List Standing → List ℕ
+standings_text values standings = concat (map (λ s. standing_text values s) standings)

@@ -14,6 +14,7 @@ use Rattle.salvage_texts.specs.Ends.{frames_end_text, more_text}
 use Rattle.py_fronts.specs.Crashes.{is_crashed}
 use Rattle.py_fronts.specs.Locks.{holds_lock}
 use Rattle.salvage_texts.specs.Standings.{standings_text}
+use Rattle.repr_json.specs.declared.shown.ShownValues.{ShownValues}
 
 abbrev pub mark_text : Bool → List ℕ → List ℕ
 mark_text is_marked mark = if is_marked then mark else []
@@ -30,24 +31,27 @@ thread_line lock crash names t = codes "Thread " ++ (id_text t.os_thread_id t.th
     ++ (name_text (name_of names t.thread_id) ++ codes "\n"))))
 
 -- the first frames, how many aren't shown, the last ones, and how they end
-abbrev pub frames_text : FramesFront → List ℕ
-frames_text f = standings_text f.first.items ++ (more_text f.between ++ (standings_text f.last.items
-    ++ frames_end_text f.end f.met))
+abbrev pub frames_text : ShownValues → FramesFront → List ℕ
+frames_text values f = standings_text values f.first.items ++ (more_text f.between
+    ++ (standings_text values f.last.items ++ frames_end_text f.end f.met))
 
-abbrev pub thread_text : LockState → Option Crash → List ThreadName → ThreadFront → List ℕ
-thread_text lock crash names t = thread_line lock crash names t ++ frames_text t.frames
+abbrev pub thread_text : ShownValues → LockState → Option Crash → List ThreadName → ThreadFront → List ℕ
+thread_text values lock crash names t = thread_line lock crash names t ++ frames_text values t.frames
 
 -- threads from the last to the first
-abbrev pub reversed_text : LockState → Option Crash → List ThreadName → List ThreadFront → List ℕ
-reversed_text lock crash names threads = concat (map (λ t. thread_text lock crash names t) (reverse threads))
+abbrev pub reversed_text : ShownValues → LockState → Option Crash → List ThreadName → List ThreadFront → List ℕ
+reversed_text values lock crash names threads =
+    concat (map (λ t. thread_text values lock crash names t) (reverse threads))
 
 -- the one at a place first, and then the others
-abbrev pub placed_text : LockState → Option Crash → List ThreadName → List ThreadFront → Option ℕ → List ℕ
-placed_text lock crash names threads None = reversed_text lock crash names threads
-placed_text lock crash names threads (Some i) = reversed_text lock crash names (take 1 (drop i threads))
-    ++ (reversed_text lock crash names (drop (i + 1) threads) ++ reversed_text lock crash names (take i threads))
+abbrev pub placed_text : ShownValues → LockState → Option Crash → List ThreadName → List ThreadFront → Option ℕ
+    → List ℕ
+placed_text values lock crash names threads None = reversed_text values lock crash names threads
+placed_text values lock crash names threads (Some i) = reversed_text values lock crash names (take 1 (drop i threads))
+    ++ (reversed_text values lock crash names (drop (i + 1) threads)
+    ++ reversed_text values lock crash names (take i threads))
 
 -- the first one that got the signal, where there is one, and then the others from the last to the first
-abbrev pub threads_text : LockState → Option Crash → List ThreadName → List ThreadFront → List ℕ
-threads_text lock crash names threads =
-    placed_text lock crash names threads (position (λ thread. is_crashed crash thread) threads)
+abbrev pub threads_text : ShownValues → LockState → Option Crash → List ThreadName → List ThreadFront → List ℕ
+threads_text values lock crash names threads =
+    placed_text values lock crash names threads (position (λ thread. is_crashed crash thread) threads)

@@ -7,6 +7,7 @@ ghost use Rattle.salvage_texts.specs.Salvaged.{searched_text};
 use crate::ends::{push_missing, push_threads_end};
 use crate::thread::push_threads;
 use py_fronts::{Crash, InterpreterFront, LockState, SalvagedInterpreter};
+use repr_json::ShownValues;
 use std::alloc::{AllocError, Global};
 use thread_names::{InterpreterNames, threads_named};
 
@@ -55,13 +56,14 @@ fn push_lock(text: &mut String, lock: LockState) -> Result<(), AllocError>
 fn push_interpreter(
     alloc: Global,
     text: &mut String,
+    values: &ShownValues,
     is_several: bool,
     crash: Option<Crash>,
     names: &[InterpreterNames],
     interpreter: &SalvagedInterpreter,
 ) -> Result<(), AllocError>
     ensures { OnOk result (string_bytes text.new
-        ≡ string_bytes text.old ++ interpreter_text is_several crash names.now interpreter.now) }
+        ≡ string_bytes text.old ++ interpreter_text values.now is_several crash names.now interpreter.now) }
 {
     push_heading(text, is_several, &interpreter.front)?;
     push_lock(text, interpreter.lock)?;
@@ -69,6 +71,7 @@ fn push_interpreter(
     push_threads(
         alloc,
         text,
+        values,
         interpreter.lock,
         crash,
         threads_named(names, interpreter.front.address),
@@ -80,16 +83,17 @@ fn push_interpreter(
 pub(crate) fn push_interpreters(
     alloc: Global,
     text: &mut String,
+    values: &ShownValues,
     is_several: bool,
     crash: Option<Crash>,
     names: &[InterpreterNames],
     interpreters: &[SalvagedInterpreter],
 ) -> Result<(), AllocError>
     ensures { OnOk result (string_bytes text.new
-        ≡ string_bytes text.old ++ interpreters_text is_several crash names.now interpreters.now) }
+        ≡ string_bytes text.old ++ interpreters_text values.now is_several crash names.now interpreters.now) }
 {
     for interpreter in interpreters {
-        push_interpreter(alloc, text, is_several, crash, names, interpreter)?;
+        push_interpreter(alloc, text, values, is_several, crash, names, interpreter)?;
     }
     Ok(())
 }

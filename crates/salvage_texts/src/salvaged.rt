@@ -7,6 +7,7 @@ ghost use Rattle.salvage_texts.specs.Standings.{frame_line};
 
 use crate::interpreter::push_interpreters;
 use py_fronts::{Crash, Looked, Salvaged, SalvagedInterpreter, first_crashed};
+use repr_json::ShownValues;
 use std::alloc::{AllocError, Global};
 use thread_names::InterpreterNames;
 
@@ -14,22 +15,24 @@ use thread_names::InterpreterNames;
 fn push_ordered(
     alloc: Global,
     text: &mut String,
+    values: &ShownValues,
     crash: Option<Crash>,
     names: &[InterpreterNames],
     interpreters: &[SalvagedInterpreter],
 ) -> Result<(), AllocError>
     ensures { OnOk result (string_bytes text.new
-        ≡ string_bytes text.old ++ ordered_text crash names.now interpreters.now) }
+        ≡ string_bytes text.old ++ ordered_text values.now crash names.now interpreters.now) }
 {
     let is_several = interpreters.len() > 1;
     let Some(index) = first_crashed(crash, interpreters) else {
-        return push_interpreters(alloc, text, is_several, crash, names, interpreters);
+        return push_interpreters(alloc, text, values, is_several, crash, names, interpreters);
     };
     let first = &interpreters[index..index + 1];
-    push_interpreters(alloc, text, is_several, crash, names, first)?;
+    push_interpreters(alloc, text, values, is_several, crash, names, first)?;
     push_interpreters(
         alloc,
         text,
+        values,
         is_several,
         crash,
         names,
@@ -38,6 +41,7 @@ fn push_ordered(
     push_interpreters(
         alloc,
         text,
+        values,
         is_several,
         crash,
         names,
@@ -73,13 +77,21 @@ fn push_ended(text: &mut String, looked: &Looked) -> Result<(), AllocError>
 fn push_salvaged(
     alloc: Global,
     text: &mut String,
+    values: &ShownValues,
     names: &[InterpreterNames],
     salvaged: &Salvaged,
 ) -> Result<(), AllocError>
     ensures { OnOk result (string_bytes text.new
-        ≡ string_bytes text.old ++ salvaged_text names.now salvaged.now) }
+        ≡ string_bytes text.old ++ salvaged_text values.now names.now salvaged.now) }
 {
-    push_ordered(alloc, text, salvaged.crash, names, &salvaged.interpreters)?;
+    push_ordered(
+        alloc,
+        text,
+        values,
+        salvaged.crash,
+        names,
+        &salvaged.interpreters,
+    )?;
     push_more(text, salvaged.more)?;
     push_ended(text, &salvaged.looked)
 }
@@ -89,19 +101,20 @@ fn push_salvaged(
 /// there are more than 16 interpreters, or the search for them ended before all was looked at, a line that says so.
 ///
 /// A thread is marked where it holds the lock of its interpreter, and where it got the signal, and has the name that is
-/// told of its id in its interpreter, if one is. The first interpreter
-/// with such a thread stands first, and in it that thread; else interpreters stand in order, and the threads of each
-/// from the last to the first. The one error is want of memory.
+/// told of its id in its interpreter, if one is. A local has the text that is kept for the address of its value, or a
+/// question mark. The first interpreter with such a thread stands first, and in it that thread; else interpreters stand in
+/// order, and the threads of each from the last to the first. The one error is want of memory.
 pub fn salvaged_text(
     alloc: Global,
+    values: &ShownValues,
     names: &[InterpreterNames],
     salvaged: &Salvaged,
 ) -> Result<String, AllocError>
-    ensures shows { IfOk result (λ text. string_bytes text ≡ salvaged_text names.now salvaged.now) }
+    ensures shows { IfOk result (λ text. string_bytes text ≡ salvaged_text values.now names.now salvaged.now) }
     // whatever the names of a frame are, its line is none of those that say what is missing among frames
     ensures unforged { (frame : Frame) → IsNoMark (frame_line frame) }
 {
     let mut text = String::new(alloc);
-    push_salvaged(alloc, &mut text, names, salvaged)?;
+    push_salvaged(alloc, &mut text, values, names, salvaged)?;
     Ok(text)
 }

@@ -1,7 +1,8 @@
 //! The lines of frames, and of members that have none.
 ghost use Rattle.std.specs.Prelude.{◌≡◌, ◌++◌, OnOk, map, string_bytes};
 ghost use Rattle.std.specs.List.{concat};
-ghost use Rattle.salvage_texts.specs.Standings.{fault_text, frame_line, local_text, locals_fault};
+ghost use Rattle.repr_json.specs.Shown.{text_in};
+ghost use Rattle.salvage_texts.specs.Standings.{fault_text, frame_line, kept_text, local_text, locals_fault};
 ghost use Rattle.salvage_texts.specs.Standings.{locals_text, member_line, shown_locals, standing_text};
 ghost use Rattle.salvage_texts.specs.Standings.{standings_text, value_text, why_text};
 
@@ -12,6 +13,7 @@ use elf64_core::Text;
 use py_builtins::ObjectError;
 use py_fronts::{Standing, shown_line};
 use py_stacks::{Frame, LocalVariable, StackError};
+use repr_json::ShownValues;
 use std::alloc::{AllocError, Global};
 
 /// A frame's function, file and line.
@@ -36,23 +38,49 @@ fn push_value(alloc: Global, text: &mut String, value: &Option<Text>) -> Result<
     }
 }
 
+/// The value of a local, where one is kept for its address.
+fn push_kept(
+    alloc: Global,
+    text: &mut String,
+    values: &ShownValues,
+    local: &LocalVariable,
+) -> Result<(), AllocError>
+    ensures { OnOk result (string_bytes text.new ≡ string_bytes text.old
+        ++ kept_text (text_in values.now local.now.addr) (value_text local.now.repr)) }
+{
+    match values.text_at(local.addr) {
+        Some(kept) => text.push_str(kept),
+        None => push_value(alloc, text, &local.repr),
+    }
+}
+
 /// The line of a local.
-fn push_local(alloc: Global, text: &mut String, local: &LocalVariable) -> Result<(), AllocError>
-    ensures { OnOk result (string_bytes text.new ≡ string_bytes text.old ++ local_text local.now) }
+fn push_local(
+    alloc: Global,
+    text: &mut String,
+    values: &ShownValues,
+    local: &LocalVariable,
+) -> Result<(), AllocError>
+    ensures { OnOk result (string_bytes text.new ≡ string_bytes text.old ++ local_text values.now local.now) }
 {
     text.push_str("        ")?;
     push_escaped(alloc, text, true, &local.name)?;
     text.push_str(": ")?;
-    push_value(alloc, text, &local.repr)?;
+    push_kept(alloc, text, values, local)?;
     text.push_str("\n")
 }
 
 /// The lines of locals.
-fn push_locals(alloc: Global, text: &mut String, locals: &[LocalVariable]) -> Result<(), AllocError>
-    ensures { OnOk result (string_bytes text.new ≡ string_bytes text.old ++ locals_text locals.now) }
+fn push_locals(
+    alloc: Global,
+    text: &mut String,
+    values: &ShownValues,
+    locals: &[LocalVariable],
+) -> Result<(), AllocError>
+    ensures { OnOk result (string_bytes text.new ≡ string_bytes text.old ++ locals_text values.now locals.now) }
 {
     for local in locals {
-        push_local(alloc, text, local)?;
+        push_local(alloc, text, values, local)?;
     }
     Ok(())
 }
@@ -61,12 +89,13 @@ fn push_locals(alloc: Global, text: &mut String, locals: &[LocalVariable]) -> Re
 fn push_shown_locals(
     alloc: Global,
     text: &mut String,
+    values: &ShownValues,
     locals: &Option<Vec<LocalVariable>>,
 ) -> Result<(), AllocError>
-    ensures { OnOk result (string_bytes text.new ≡ string_bytes text.old ++ shown_locals locals.now) }
+    ensures { OnOk result (string_bytes text.new ≡ string_bytes text.old ++ shown_locals values.now locals.now) }
 {
     match locals {
-        Some(locals) => push_locals(alloc, text, locals),
+        Some(locals) => push_locals(alloc, text, values, locals),
         None => Ok(()),
     }
 }
@@ -115,13 +144,18 @@ fn push_member(text: &mut String, why: &ObjectError) -> Result<(), AllocError>
 }
 
 /// The lines of what stands for a member.
-fn push_standing(alloc: Global, text: &mut String, standing: &Standing) -> Result<(), AllocError>
-    ensures { OnOk result (string_bytes text.new ≡ string_bytes text.old ++ standing_text standing.now) }
+fn push_standing(
+    alloc: Global,
+    text: &mut String,
+    values: &ShownValues,
+    standing: &Standing,
+) -> Result<(), AllocError>
+    ensures { OnOk result (string_bytes text.new ≡ string_bytes text.old ++ standing_text values.now standing.now) }
 {
     match standing {
         Standing::Frame { frame, fault } => {
             push_frame_line(alloc, text, frame)?;
-            push_shown_locals(alloc, text, &frame.locals)?;
+            push_shown_locals(alloc, text, values, &frame.locals)?;
             push_locals_fault(text, fault)
         }
         Standing::Member { why, .. } => push_member(text, why),
@@ -132,12 +166,14 @@ fn push_standing(alloc: Global, text: &mut String, standing: &Standing) -> Resul
 pub(crate) fn push_standings(
     alloc: Global,
     text: &mut String,
+    values: &ShownValues,
     standings: &[Standing],
 ) -> Result<(), AllocError>
-    ensures { OnOk result (string_bytes text.new ≡ string_bytes text.old ++ standings_text standings.now) }
+    ensures { OnOk result (string_bytes text.new
+        ≡ string_bytes text.old ++ standings_text values.now standings.now) }
 {
     for standing in standings {
-        push_standing(alloc, text, standing)?;
+        push_standing(alloc, text, values, standing)?;
     }
     Ok(())
 }

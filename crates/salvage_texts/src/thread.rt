@@ -9,6 +9,7 @@ use crate::ends::{push_frames_end, push_more};
 use crate::escape::push_escaped;
 use crate::standing::push_standings;
 use py_fronts::{Crash, FramesFront, LockState, ThreadFront, crashed_at, holds_lock, is_crashed};
+use repr_json::ShownValues;
 use std::alloc::{AllocError, Global};
 use thread_names::{ThreadName, name_of};
 
@@ -75,12 +76,17 @@ fn push_thread_line(
 }
 
 /// The lines of a thread's frames, and of their end.
-fn push_frames(alloc: Global, text: &mut String, frames: &FramesFront) -> Result<(), AllocError>
-    ensures { OnOk result (string_bytes text.new ≡ string_bytes text.old ++ frames_text frames.now) }
+fn push_frames(
+    alloc: Global,
+    text: &mut String,
+    values: &ShownValues,
+    frames: &FramesFront,
+) -> Result<(), AllocError>
+    ensures { OnOk result (string_bytes text.new ≡ string_bytes text.old ++ frames_text values.now frames.now) }
 {
-    push_standings(alloc, text, &frames.first)?;
+    push_standings(alloc, text, values, &frames.first)?;
     push_more(text, frames.between)?;
-    push_standings(alloc, text, &frames.last)?;
+    push_standings(alloc, text, values, &frames.last)?;
     push_frames_end(text, frames.end, frames.met)
 }
 
@@ -88,32 +94,34 @@ fn push_frames(alloc: Global, text: &mut String, frames: &FramesFront) -> Result
 fn push_thread(
     alloc: Global,
     text: &mut String,
+    values: &ShownValues,
     lock: LockState,
     crash: Option<Crash>,
     names: &[ThreadName],
     thread: &ThreadFront,
 ) -> Result<(), AllocError>
     ensures { OnOk result (string_bytes text.new
-        ≡ string_bytes text.old ++ thread_text lock crash names.now thread.now) }
+        ≡ string_bytes text.old ++ thread_text values.now lock crash names.now thread.now) }
 {
     push_thread_line(alloc, text, lock, crash, names, thread)?;
-    push_frames(alloc, text, &thread.frames)
+    push_frames(alloc, text, values, &thread.frames)
 }
 
 /// The lines of some threads, from the last to the first.
 fn push_reversed(
     alloc: Global,
     text: &mut String,
+    values: &ShownValues,
     lock: LockState,
     crash: Option<Crash>,
     names: &[ThreadName],
     threads: &[ThreadFront],
 ) -> Result<(), AllocError>
     ensures { OnOk result (string_bytes text.new
-        ≡ string_bytes text.old ++ reversed_text lock crash names.now threads.now) }
+        ≡ string_bytes text.old ++ reversed_text values.now lock crash names.now threads.now) }
 {
     for thread in threads.iter().rev() {
-        push_thread(alloc, text, lock, crash, names, thread)?;
+        push_thread(alloc, text, values, lock, crash, names, thread)?;
     }
     Ok(())
 }
@@ -123,18 +131,35 @@ fn push_reversed(
 pub(crate) fn push_threads(
     alloc: Global,
     text: &mut String,
+    values: &ShownValues,
     lock: LockState,
     crash: Option<Crash>,
     names: &[ThreadName],
     threads: &[ThreadFront],
 ) -> Result<(), AllocError>
     ensures { OnOk result (string_bytes text.new
-        ≡ string_bytes text.old ++ threads_text lock crash names.now threads.now) }
+        ≡ string_bytes text.old ++ threads_text values.now lock crash names.now threads.now) }
 {
     let Some(index) = crashed_at(crash, threads) else {
-        return push_reversed(alloc, text, lock, crash, names, threads);
+        return push_reversed(alloc, text, values, lock, crash, names, threads);
     };
-    push_reversed(alloc, text, lock, crash, names, &threads[index..index + 1])?;
-    push_reversed(alloc, text, lock, crash, names, &threads[index + 1..])?;
-    push_reversed(alloc, text, lock, crash, names, &threads[..index])
+    push_reversed(
+        alloc,
+        text,
+        values,
+        lock,
+        crash,
+        names,
+        &threads[index..index + 1],
+    )?;
+    push_reversed(
+        alloc,
+        text,
+        values,
+        lock,
+        crash,
+        names,
+        &threads[index + 1..],
+    )?;
+    push_reversed(alloc, text, values, lock, crash, names, &threads[..index])
 }

@@ -34,6 +34,7 @@ import rows_search
 import rows_slim
 import rows_tasks
 import rows_triage
+import rows_values
 import rows_walk
 from row import Row
 
@@ -98,7 +99,7 @@ def main() -> int:
     parser.add_argument("--only", default="", help="the rows in whose name this stands")
     parser.add_argument("--list", action="store_true", help="print the names of the rows, and run none")
     words = parser.parse_args()
-    lists = [(words.program, [*rows_walk.rows(), *rows_dump.rows(), *rows_search.rows(), *rows_triage.rows(), *rows_reach.rows(), *rows_merge.rows(), *rows_slim.rows(), *rows_sample.rows()]), (words.listing, rows_listing.rows()), (words.salvage, [*rows_salvage.rows(), *rows_layout_check.rows(), *rows_names.rows(), *rows_native.rows(), *rows_tasks.rows()])]
+    lists = [(words.program, [*rows_walk.rows(), *rows_dump.rows(), *rows_search.rows(), *rows_triage.rows(), *rows_reach.rows(), *rows_merge.rows(), *rows_slim.rows(), *rows_sample.rows()]), (words.listing, rows_listing.rows()), (words.salvage, [*rows_salvage.rows(), *rows_layout_check.rows(), *rows_names.rows(), *rows_native.rows(), *rows_tasks.rows(), *rows_values.rows()])]
     if os.path.isfile(words.listing):
         listing = os.path.abspath(words.listing)
         lists += [(words.program, [*rows_built.rows(listing), *rows_programs.rows(listing)]),

@@ -35,7 +35,7 @@ CORE            the core's file
 --layouts FILE  the layout file
 --records FILE  where the fields are that sections need beyond the layouts
 -n N            the first N frames of a thread and the last N, from 1 to 4096; 100 unless it is said
--l              the locals of each frame
+-l              the locals of each frame with their values; more of each value by each more, up to five
 -j              JSON in place of text
 --signal        how the signal came about
 --registers     the registers of each thread, and which of Python's threads it is

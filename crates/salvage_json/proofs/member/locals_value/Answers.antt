@@ -8,6 +8,6 @@ use Rattle.salvage_json.proofs.member.locals_value.Goals as goal
 
 pub returns : goal.returns
 returns c =
-    view-Array c.loop-local.values
+    view-Array c.loop-local.own
     ∙ ap (λ ds. array (items_of ds)) (c.loop-local.invariant
-    ∙ ap (λ xs. map (λ x. local_tree x) xs) (take_all c.loop-local.local-index c.args.locals.now c.loop-local-test.false))
+    ∙ ap (λ xs. map (λ x. local_tree c.args.values.now x) xs) (take_all c.loop-local.local-index c.args.locals.now c.loop-local-test.false))

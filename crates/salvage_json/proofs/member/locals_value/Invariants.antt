@@ -4,4 +4,4 @@ use Rattle.salvage_json.specs.Members.{local_tree}
 use Rattle.salvage_json.proofs.member.locals_value.Given as goal
 
 abbrev pub invariant-loop-local : goal.invariant-loop-local
-invariant-loop-local l = map view l.values.items ≡ map (λ x. local_tree x) (take l.local-index l.locals)
+invariant-loop-local l = map view l.own.items ≡ map (λ x. local_tree l.values x) (take l.local-index l.locals)

@@ -8,6 +8,6 @@ use Rattle.salvage_json.proofs.member.standings_value.Goals as goal
 
 pub returns : goal.returns
 returns c =
-    view-Array c.loop-standing.values
+    view-Array c.loop-standing.own
     ∙ ap (λ ds. array (items_of ds)) (c.loop-standing.invariant
-    ∙ ap (λ xs. map (λ x. standing_tree x) xs) (take_all c.loop-standing.standing-index c.args.standings.now c.loop-standing-test.false))
+    ∙ ap (λ xs. map (λ x. standing_tree c.args.values.now x) xs) (take_all c.loop-standing.standing-index c.args.standings.now c.loop-standing-test.false))

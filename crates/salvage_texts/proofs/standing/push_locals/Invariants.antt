@@ -5,4 +5,4 @@ use Rattle.salvage_texts.proofs.standing.push_locals.Given as goal
 
 abbrev pub invariant-loop-local : goal.invariant-loop-local
 invariant-loop-local l = string_bytes l.text ≡ string_bytes l.initial.text ++ concat
-    (map (λ x. local_text x) (take l.local-index l.locals))
+    (map (λ x. local_text l.values x) (take l.local-index l.locals))

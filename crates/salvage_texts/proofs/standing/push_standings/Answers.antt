@@ -5,6 +5,6 @@ use Rattle.salvage_texts.proofs.standing.push_standings.Goals as goal
 
 pub loop-standing-preserved : goal.loop-standing-preserved
 loop-standing-preserved c =
-    push_more (λ x. standing_text x) (string_bytes c.args.text.now) _ _ c.args.standings.now
+    push_more (λ x. standing_text c.args.values.now x) (string_bytes c.args.text.now) _ _ c.args.standings.now
     c.loop-standing.standing-index c.standing-item.result c.standing-item.result c.loop-standing-test.true
     c.standing-item.is c.loop-standing.invariant c.in_ok-push_standing.ensures

@@ -5,4 +5,4 @@ use Rattle.salvage_texts.proofs.standing.push_standings.Given as goal
 
 abbrev pub invariant-loop-standing : goal.invariant-loop-standing
 invariant-loop-standing l = string_bytes l.text ≡ string_bytes l.initial.text ++ concat
-    (map (λ x. standing_text x) (take l.standing-index l.standings))
+    (map (λ x. standing_text l.values x) (take l.standing-index l.standings))

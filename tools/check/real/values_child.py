@@ -1,0 +1,220 @@
+"""Keeps values of every kind in locals, says what they are, and dies by an abort: a child of real_values.py.
+
+It runs in each Python from 2.7 on. What it says is one line of JSON: of each local its kind, its text as `repr` has it, none where
+the text shown is in another form, and its tree as pysalvage's JSON has it, as far as that can be known within the process. A
+container deeper than DEEPEST has none.
+"""
+
+from __future__ import print_function
+
+import json
+import os
+import resource
+import struct
+import sys
+
+IS_2 = sys.version_info[0] == 2
+DEEPEST = 13
+"""How deep trees are said: deeper than any value is shown by the levels that are asked for here."""
+
+EXACT = 2 ** 53
+LONG_TYPE = type(2 ** 70)
+"""Python 2's `long`."""
+
+LONG = 3300
+"""Integers of fewer bits are told exactly, and of others how many digits they have."""
+
+
+class Plain(object):
+    """A class of its own."""
+
+
+class Derived(int):
+    """A class whose objects are integers too."""
+
+
+def plain_function():
+    """A function."""
+
+
+def hexadecimal(number):
+    """An address, or bits."""
+    return "0x%x" % number
+
+
+def bits_of(number):
+    """The bits of a float."""
+    return struct.unpack("<Q", struct.pack("<d", number))[0]
+
+
+def part(number):
+    """A part of a complex number."""
+    return {"bits": hexadecimal(bits_of(number)), "text": repr(number)}
+
+
+def integer_tree(number, kind):
+    """The tree of an integer."""
+    if number.bit_length() > LONG:
+        return {"kind": kind, "digits": (number.bit_length() + 29) // 30, "negative": number < 0, "value": None}
+    return {"kind": kind, "value": number if abs(number) <= EXACT else str(number)}
+
+
+def characters(text):
+    """A text without surrogates."""
+    return u"".join(u"\ufffd" if u"\ud800" <= it <= u"\udfff" else it for it in text)
+
+
+def hex_text(front):
+    """Bytes in hexadecimal digits."""
+    return "".join("%02x" % it for it in bytearray(front))
+
+
+def items_tree(kind, items, depth):
+    """The tree of a container."""
+    return {"kind": kind, "items": [tree_of(it, depth + 1) for it in items], "more": 0}
+
+
+def single_tree(value):
+    """The tree of one of the objects that are alone of their kind, or none."""
+    for kind, one in (("none", None), ("ellipsis", Ellipsis), ("not implemented", NotImplemented)):
+        if value is one:
+            return {"kind": kind}
+    return {"kind": "bool", "value": value} if isinstance(value, bool) else None
+
+
+def number_tree(value):
+    """The tree of a number, or none."""
+    if IS_2 and isinstance(value, LONG_TYPE):
+        return integer_tree(value, "long")
+    if isinstance(value, int):
+        return integer_tree(int(value), "int")
+    if isinstance(value, float):
+        return {"kind": "float", "bits": hexadecimal(bits_of(value)), "text": repr(value)}
+    if isinstance(value, complex):
+        return {"kind": "complex", "real": part(value.real), "imaginary": part(value.imag)}
+    return None
+
+
+def text_tree(value):
+    """The tree of a text or of bytes, or none."""
+    if isinstance(value, bytearray):
+        return {"kind": "bytearray", "hex": hex_text(value), "length": len(value)}
+    if isinstance(value, bytes):
+        return {"kind": "byte string" if IS_2 else "bytes", "hex": hex_text(value), "length": len(value)}
+    if isinstance(value, type(u"")):
+        return {"kind": "unicode" if IS_2 else "str", "value": characters(value), "length": len(value)}
+    return None
+
+
+def container_tree(value, depth):
+    """The tree of a container, or none."""
+    if isinstance(value, dict):
+        pairs = [[tree_of(key, depth + 1), tree_of(it, depth + 1)] for key, it in value.items()]
+        return {"kind": "dict", "items": pairs, "more": 0}
+    for kind in (list, tuple, set, frozenset):
+        if isinstance(value, kind):
+            return items_tree(kind.__name__, value, depth)
+    if isinstance(value, (slice, range if not IS_2 else slice)):
+        return items_tree(type(value).__name__, (value.start, value.stop, value.step), depth)
+    if type(value).__name__ == "cell":
+        return items_tree("cell", (value.cell_contents,), depth)
+    return None
+
+
+def tree_of(value, depth=0):
+    """The tree of a value."""
+    if depth > DEEPEST:
+        return None
+    tree = single_tree(value) or number_tree(value) or text_tree(value) or container_tree(value, depth)
+    if tree is not None:
+        return tree
+    if isinstance(value, type):
+        return {"kind": "class", "name": value.__name__, "address": hexadecimal(id(value))}
+    return {"kind": "object", "type": type(value).__name__, "address": hexadecimal(id(value))}
+
+
+ALIKE = (type(None), bool, float, complex, bytes, bytearray, type(u""), type(Ellipsis), type(NotImplemented))
+"""Types whose values are written as `repr` writes them."""
+
+
+def is_alike(value, depth=0):
+    """Whether a value is written as `repr` writes it."""
+    if depth > DEEPEST:
+        return False
+    if isinstance(value, ALIKE) or type(value) in (int, LONG_TYPE):
+        return True
+    if type(value) in (list, tuple, set, frozenset):
+        return all(is_alike(it, depth + 1) for it in value)
+    if type(value) is dict:
+        return all(is_alike(key, depth + 1) and is_alike(it, depth + 1) for key, it in value.items())
+    return type(value) is slice and all(is_alike(it) for it in (value.start, value.stop, value.step))
+
+
+def said_of(value):
+    """What is said of a value."""
+    if isinstance(value, Derived):
+        return {"text": None, "tree": integer_tree(int(value), "int")}
+    huge = isinstance(value, (int, LONG_TYPE)) and abs(value).bit_length() > LONG
+    return {"text": repr(value) if is_alike(value) and not huge else None, "tree": tree_of(value)}
+
+
+def held():
+    """A cell that holds a text."""
+    within = "in a cell"
+
+    def inner():
+        return within
+
+    return inner.__closure__[0]
+
+
+def keep():
+    """Keeps the values, says what they are, and dies."""
+    nothing, yes, no, dots, not_there = None, True, False, Ellipsis, NotImplemented
+    zero, one, minus, small, large = 0, 1, -1, 2 ** 30 - 1, 2 ** 30
+    exact, past, time_ns, minus_large = EXACT, EXACT + 1, 1764547200123456789, -2 ** 60
+    wide, widest, too_wide, minus_too_wide = 2 ** 200 + 7, 2 ** LONG - 1, 2 ** (LONG + 90), -2 ** (LONG + 90)
+    derived = Derived(5)
+    half, tenth, tiny, vast, whole = 1.5, 0.1, 1e-05, 1e16, 3.0
+    minus_zero, endless, minus_endless, no_number = -0.0, float("inf"), float("-inf"), float("nan")
+    least, long_float = 5e-324, 0.1 + 0.2
+    square, only_imaginary = complex(1.5, -2.0), complex(0.0, 1e-05)
+    empty, word, apostrophe, both = "", "word", "it's", "it's \"both\""
+    lines, controls = "a\nb\tc\rd\\e", "\x00\x1b\x7f"
+    latin, greek, kanji = u"\xe4\xff", u"\u03b1\u2028", u"\u65e5\u672c"
+    lone, snake = u"a\ud800b", u"\U0001f40d"
+    long_text, forged = "x" * 5000, "x\", y: \"z"
+    no_bytes, some_bytes, all_bytes, long_bytes = b"", b"it's\x00\xff", bytes(bytearray(range(256))), b"ab" * 3000
+    array, long_array = bytearray(b"it's\x01"), bytearray(b"z" * 2000)
+    no_items, items, nested, long_list = [], [1, "two", 3.0], [[1, [2, [3, [4, [5]]]]], []], list(range(1000))
+    itself = [1]
+    itself.append(itself)
+    no_tuple, single, pair = (), (1,), ("a", u"b")
+    no_set, one_set, numbers, frozen, no_frozen = set(), set(["a"]), set([1, 2, 3]), frozenset([1]), frozenset()
+    no_dict, mapping, long_dict = {}, {"Authorization": "Bearer x", 2: [1]}, dict((it, str(it)) for it in range(200))
+    within_itself = {}
+    within_itself["self"] = within_itself
+    steps, plain_range, piece, whole_piece = range(1, 10, 2), range(5), slice(1, None, 2), slice(None)
+    cell, kind, own_kind, plain, other = held(), dict, Plain, Plain(), object()
+    function, built_in, module = plain_function, len, json
+    tell(dict(locals()))
+    os.abort()
+
+
+def tell(own):
+    """Says what some locals are."""
+    print(json.dumps(dict((name, said_of(value)) for name, value in own.items())))
+    sys.stdout.flush()
+
+
+def main():
+    """The command: its one argument is what the core holds, as the system's coredump_filter has it."""
+    with open("/proc/self/coredump_filter", "w") as file:
+        file.write(sys.argv[1])
+    hard = resource.getrlimit(resource.RLIMIT_CORE)[1]
+    resource.setrlimit(resource.RLIMIT_CORE, (hard, hard))
+    keep()
+
+
+if __name__ == "__main__":
+    main()
