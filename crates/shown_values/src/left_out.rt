@@ -18,10 +18,7 @@ pub fn values_left_out(values: &Option<LocalValues>) -> Option<u64>
 }
 
 /// The line that says how many values are left out, where any are.
-pub fn push_left_out(
-    text: &mut String,
-    values: &Option<LocalValues>,
-) -> Result<(), AllocError>
+pub fn push_left_out(text: &mut String, values: &Option<LocalValues>) -> Result<(), AllocError>
     ensures { OnOk result (string_bytes text.new ≡ string_bytes text.old
         ++ left_out_text (values_left_out values.now)) }
 {
