@@ -2,7 +2,7 @@
 
 import json
 import struct
-from typing import Callable, Dict, Iterator, List, Optional, Sequence
+from typing import Callable, Dict, Iterator, List, Optional
 
 from made import Objects
 from row import Row
@@ -180,6 +180,6 @@ def trees() -> Iterator[Row]:
     interpreter = {"address": hex(HEAP), "lock": {"holder": 0, "kind": "read"}, "searched": False, "threads": [thread],
                    "threads_end": {"kind": "whole"}}
     tree = {"exceptions": None, "interpreters": [interpreter], "layout_check": None, "missing": None, "more": False, "names": None,
-            "native": None, "process": None, "registers": None, "signal": None, "signal_info": None, "tasks": None,
-            "values_left_out": 0, "version": "3.9.0"}
+            "native": None, "process": None, "registers": None, "search_ended": None, "signal": None, "signal_info": None, "tasks": None,
+            "values_left_out": 0, "version": "3.9.0", "version_by_names": False}
     yield salvage("value: JSON", f"{GOOD} -lj", named(objects), json.dumps(tree, indent=2) + "\n")
