@@ -55,7 +55,9 @@ pub(crate) fn salvage_with(
         (IsOutcomeWith (bytes_of_records records) (asked_salvage words.now) (core_contents files)) result }
 {
     let Some(text) = records else {
-        let tables = no_tables(alloc)?;
+        let Ok(tables) = RecordTables::of(alloc, Vec::new(alloc)) else {
+            return Err(Cause::OutOfMemory);
+        };
         return salvage_over(alloc, words, &tables, files, misses);
     };
     let tables = RecordTables::from_toml(alloc, &text)?;
