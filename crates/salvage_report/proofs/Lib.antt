@@ -9,3 +9,4 @@ pub mod NoFloat
 pub mod TellingRefused
 pub mod Saying
 pub mod NamedOpening
+pub mod Members

@@ -64,7 +64,8 @@ module _ (s : Salvage) (ts : List RecordTable) (p : Process) (crash : Option Cra
     (memory : MemoryTold) (reads : AreMemoryTold s.sections s.locals p.dump.core images (known_of p.info) p.layout
     (records_of ts p.version) (byte_at (regions_of p.dump)) salvaged.interpreters.items memory)
     (values : ShownValues)
-    (shows : AreShown s.json memory.values (shown_addresses salvaged.interpreters.items) values) where
+    (shows : AreShown s.json memory.values (shown_addresses salvaged.interpreters.items) values)
+    (named : Bool) (names : named ≡ is_some p.untold) where
   abbrev opened : OpenedProcess
   opened = opened_of is.maps p
 
@@ -73,7 +74,7 @@ module _ (s : Salvage) (ts : List RecordTable) (p : Process) (crash : Option Cra
     signal = p.notes.signal;
     process = p.notes.process;
     version = p.version;
-    named = is_some p.untold;
+    named = named;
     salvaged = salvaged;
     told = sections;
     check = check;
@@ -94,7 +95,7 @@ module _ (s : Salvage) (ts : List RecordTable) (p : Process) (crash : Option Cra
   is_left : IsLeft s ts bytes images opened left
   is_left = record {
     version_is = refl;
-    named_is = refl;
+    named_is = names;
     notes = is.notes;
     crash = subst (CrashTold bytes) (sym handed) told;
     salvaged = found ∙ ap (λ t. over t p.dump.core crash) is.tested ∙ ap (λ b. over (in_maps is.maps) b crash) is.same

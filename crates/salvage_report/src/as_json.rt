@@ -1,5 +1,6 @@
 //! What is left of a process, and what is told in its sections, as JSON.
-ghost use Rattle.std.specs.Prelude.{◌≡◌, false, IfOk, string_bytes};
+ghost use Rattle.std.specs.Prelude.{◌≡◌, false, IfOk, OnOk, string_bytes};
+ghost use Rattle.serde_json.specs.Data.{no_members};
 ghost use Rattle.serde_json.specs.View.{members_view, view};
 ghost use Rattle.serde_json.specs.Written.{has_float};
 ghost use Rattle.crash_signal.specs.Trees.{signal_tree as info_tree};
@@ -8,8 +9,8 @@ ghost use Rattle.missed_reads.specs.Told.{missed_tree, told_of};
 ghost use Rattle.py_selftest.specs.Trees.{check_tree};
 ghost use Rattle.repr_json.specs.Shown.{HasNoFloat};
 ghost use Rattle.salvage_report.specs.LayoutChecked.{check_of};
-ghost use Rattle.salvage_report.specs.Tree.{first_members, left_json, left_tree, missing_json};
-ghost use Rattle.salvage_report.specs.Tree.{missing_tree, pretty_text, section_tree, told_version};
+ghost use Rattle.salvage_report.specs.Tree.{first_members, left_json, left_tree, most_members, missing_json};
+ghost use Rattle.salvage_report.specs.Tree.{missing_tree, pretty_text, section_tree, told_version, with_last};
 ghost use Rattle.salvage_report.specs.Sections.{missing_shown, registers_shown};
 
 use crate::left::Left;
@@ -80,7 +81,7 @@ fn version_of(alloc: Global, named: bool, version: &Version) -> Result<String, A
 
 /// The members whose keys stand first in the order of their bytes.
 fn first_members(alloc: Global, limit: usize, left: &Left) -> Result<Map<String, Value>, AllocError>
-    ensures { IfOk result (λ map. members_view map.entries ≡ first_members limit left.now) }
+    ensures { IfOk result (λ map. members_view map.entries ≡ first_members limit left.now no_members) }
 {
     let salvaged = &left.salvaged;
     let exceptions = exceptions_value(alloc, &left.memory)?;
@@ -107,8 +108,9 @@ fn first_members(alloc: Global, limit: usize, left: &Left) -> Result<Map<String,
     Ok(map)
 }
 
-fn left_value(alloc: Global, limit: usize, left: &Left) -> Result<Value, AllocError>
-    ensures { IfOk result (λ value. view value ≡ left_tree limit left.now) }
+/// These and those behind them, but the last ones: how many values are left out, and the version.
+fn most_members(alloc: Global, limit: usize, left: &Left) -> Result<Map<String, Value>, AllocError>
+    ensures { IfOk result (λ map. members_view map.entries ≡ most_members limit left.now no_members) }
 {
     let mut map = first_members(alloc, limit, left)?;
     let process = process_value(alloc, &left.process)?;
@@ -117,16 +119,30 @@ fn left_value(alloc: Global, limit: usize, left: &Left) -> Result<Value, AllocEr
     let signal = signal_value(alloc, left.signal)?;
     let signal_info = info_value(alloc, &left.told.signal)?;
     let tasks = tasks_value(alloc, &left.memory)?;
-    let version = version_of(alloc, left.named, &left.version)?;
     put(&mut map, alloc, "process", process)?;
     put(&mut map, alloc, "registers", registers)?;
     put(&mut map, alloc, "search_ended", search_ended)?;
     put(&mut map, alloc, "signal", signal)?;
     put(&mut map, alloc, "signal_info", signal_info)?;
     put(&mut map, alloc, "tasks", tasks)?;
-    put_left_out(alloc, &mut map, &left.memory.values)?;
-    put(&mut map, alloc, "version", Value::String(version))?;
-    put(&mut map, alloc, "version_by_names", Value::Bool(left.named))?;
+    Ok(map)
+}
+
+/// How many values are left out, and the version.
+fn put_last(alloc: Global, map: &mut Map<String, Value>, left: &Left) -> Result<(), AllocError>
+    ensures { OnOk result (members_view map.new.entries ≡ with_last left.now (members_view map.old.entries)) }
+{
+    let version = version_of(alloc, left.named, &left.version)?;
+    put_left_out(alloc, map, &left.memory.values)?;
+    put(map, alloc, "version", Value::String(version))?;
+    put(map, alloc, "version_by_names", Value::Bool(left.named))
+}
+
+fn left_value(alloc: Global, limit: usize, left: &Left) -> Result<Value, AllocError>
+    ensures { IfOk result (λ value. view value ≡ left_tree limit left.now) }
+{
+    let mut map = most_members(alloc, limit, left)?;
+    put_last(alloc, &mut map, left)?;
     Ok(Value::Object(map))
 }
 

@@ -8,7 +8,7 @@ ghost use Rattle.py_selftest.specs.Text.{check_text};
 ghost use Rattle.repr_json.specs.Shown.{HasNoFloat};
 ghost use Rattle.salvage_report.specs.LayoutChecked.{check_of};
 ghost use Rattle.salvage_report.specs.Sections.{registers_shown};
-ghost use Rattle.salvage_report.specs.Texts.{core_name, left_text, process_text, section_text, shown_left};
+ghost use Rattle.salvage_report.specs.Texts.{core_name, left_text, process_text, rest_text, section_text, shown_left};
 ghost use Rattle.salvage_report.specs.Texts.{version_line};
 
 use crate::as_json::left_json;
@@ -106,6 +106,16 @@ fn push_check(text: &mut String, check: &Option<LayoutCheck>) -> Result<(), Allo
     }
 }
 
+/// The lines behind all threads and tasks: the registers, what the process says of the layout, and how many values of
+/// locals are left out.
+fn push_rest(text: &mut String, left: &Left) -> Result<(), AllocError>
+    ensures { OnOk result (string_bytes text.new ≡ string_bytes text.old ++ rest_text left.now) }
+{
+    push_registers(text, &left.told.registers)?;
+    push_check(text, &left.check)?;
+    push_left_out(text, &left.memory.values)
+}
+
 /// The head lines, what is left, and the sections, each at its place.
 fn left_text(alloc: Global, core: &Name, limit: usize, left: &Left) -> Result<Vec<u8>, AllocError>
     ensures { IfOk result (λ text. text.items ≡ left_text core.now limit left.now) }
@@ -123,9 +133,7 @@ fn left_text(alloc: Global, core: &Name, limit: usize, left: &Left) -> Result<Ve
     )?;
     text.push_str(salvaged.as_str())?;
     push_memory(alloc, &mut text, limit, &left.memory)?;
-    push_registers(&mut text, &left.told.registers)?;
-    push_check(&mut text, &left.check)?;
-    push_left_out(&mut text, &left.memory.values)?;
+    push_rest(&mut text, left)?;
     Ok(text.into_bytes())
 }
 

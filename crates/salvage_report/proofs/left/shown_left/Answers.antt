@@ -64,7 +64,7 @@ returns-then-is_empty c = λ bytes is crashed ne.
     let none : salvaged.interpreters.items ≡ [] = empty salvaged.interpreters.items (search rules) in
     none_left (asked_salvage c.args.words.now) c.args.tables.now c.args.process c.args.crash salvaged c.in_ok-salvaged.ensures bytes
     c.args.images.now is crashed told sections c.in_ok-check.check check c.in_ok-memory.memory
-    memory c.in_ok-values.values values none
+    memory c.in_ok-values.values values _ refl none
 
 pub shown-requires : goal.shown-requires
 shown-requires c = shown_plain c.args.words.now.json c.in_ok-memory.memory.values _ c.in_ok-values.values c.in_ok-values.ensures
@@ -96,4 +96,4 @@ returns c = λ bytes is crashed.
     let some : salvaged.interpreters.items ≢ [] = λ none. full (ap length none) in
     some_left (asked_salvage c.args.words.now) c.args.tables.now c.args.process c.args.crash salvaged c.in_ok-salvaged.ensures bytes
     c.args.images.now is crashed told sections c.in_ok-check.check check c.in_ok-memory.memory
-    memory c.in_ok-values.values values c.in_ok-shown.field-0.items some c.in_ok-shown.ensures
+    memory c.in_ok-values.values values c.is_some-named.result c.is_some-named.ensures c.in_ok-shown.field-0.items some c.in_ok-shown.ensures
