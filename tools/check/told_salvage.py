@@ -237,12 +237,16 @@ def runtime(head: int, holder: int) -> Segment:
     return Segment(RUNTIME, data.ljust(HOLDER, b"\0") + holder.to_bytes(8, "little") + bytes(16), 6)
 
 
-def image_of(random: Random) -> Tuple[bytes, int]:
+SEARCHED = 25
+"""A section of up to 2^25 bytes is looked at whole; of a longer one it is said that the search ended, beside what is shown."""
+
+
+def image_of(random: Random, most: int) -> Tuple[bytes, int]:
     """The program's file with the symbol of the runtime, and how many words are looked at in its section: those that are there,
-    though it claims more, up to 2^63 bytes."""
+    though it claims more, up to 2^most bytes."""
     if random.random() < 0.5:
         return NAMED, 74
-    size = random.choice((1 << random.randrange(10, 64), random.randrange(593, 2 ** 63)))
+    size = random.choice((1 << random.randrange(10, most + 1), random.randrange(593, 2 ** most)))
     sections = [Section(".PyRuntime", 1, RUNTIME, None, size)]
     return image_file([Segment(0x400000, b"", 5, 0x1000)], (BSS, 16), [Symbol("_PyRuntime", RUNTIME)], sections), 74
 
@@ -263,9 +267,10 @@ def left(random: Random, command: str) -> Told:
     limit = random.choice((1, 2, 3, 100, 4096))
     form = random.choice((chain, chain, threads, interpreters))
     whole, notes, holder = marked(random, form(random, limit))
-    image, words = image_of(random)
+    is_shown = any(it["threads"] for it in whole.interpreters)
+    image, words = image_of(random, SEARCHED if is_shown else 63)
     files = files_of(core_file([*whole.segments, mapped(), bss(0, 0), runtime(HEAP, holder)], notes), program=image)
-    if not any(it["threads"] for it in whole.interpreters):
+    if not is_shown:
         # (the head, the word in front of its threads, those of the runtime section, and the bss' two)
         return Told(WORDS["pysalvage"], files, 1, f"no interpreter found: {4 + words} addresses looked at, 0 members walked")
     tree = {"interpreters": list(whole.interpreters), "more": whole.more, "process": None,

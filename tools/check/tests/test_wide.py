@@ -64,8 +64,8 @@ class Wide(unittest.TestCase):
 
     def test_text(self):
         lines = self.tool("--stacks").splitlines()
-        # (a made core has no types that could confirm its layout)
-        told = "layout: unconfirmed, since the process tells too little"
+        # (a made core has no types that could confirm its layout, and no modules)
+        told = "layout: doubtful, 64 of 65 known answers are right"
         self.assertEqual([it for it in lines if it != told][:4], ["Python v3.9.0", "", "200 threads", "    190 of 200: f (a.py)"])
         stacks = lines[lines.index("", 3) + 1 :]
         # (threads stand in the reverse of the interpreter's order)
