@@ -293,5 +293,15 @@ def searched(random: Random, command: str) -> Told:
     return told_of(random, files, tree, ())
 
 
-SALVAGE_TELLERS: Tuple[Teller, ...] = (cut, cut_image, large_bss, left, left, left, left, left, searched)
+def named_by_files(random: Random, command: str) -> Told:
+    """Of a bss that claims more than there is, so that the version can't be read, the names of files tell it; and of a long one it is said
+    that the search ended."""
+    known = large_bss(random, command)
+    size = int(known.line.split()[-2])
+    ended = "... the search ended after 1 members and 2 addresses\n" if size // 8 > 1 << 22 else ""
+    out = f"Python v3.9 (by the names of files)\n\nThread 0x7F00\n    f (a.py)\n    <module> (a.py)\n{ended}"
+    return Told(known.words, known.files, 0, out=out.encode())
+
+
+SALVAGE_TELLERS: Tuple[Teller, ...] = (cut, cut_image, named_by_files, left, left, left, left, left, searched)
 """What is told of `pysalvage`."""
