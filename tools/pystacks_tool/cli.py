@@ -182,6 +182,15 @@ def clash_of_many(options: Options) -> str:
     return ""
 
 
+def clash_of_hidden(words: argparse.Namespace) -> str:
+    """What is wrong with the words for values that are hidden, if anything is."""
+    if words.show_secrets and not words.html:
+        return "--show-secrets is taken with --html: elsewhere no value is hidden unasked"
+    if words.hide and (words.group or words.keys or words.collapsed or words.list or words.show):
+        return "--hide is taken where the values of one core are shown"
+    return ""
+
+
 def clash(options: Options) -> str:
     """What is wrong with the words, if anything is."""
     if options.kept_list or options.kept_one:
@@ -211,8 +220,9 @@ def clash(options: Options) -> str:
 def read_options(name: str, given: Sequence[str]) -> Options:
     """What is asked for. Wrong words end the tool, with their line and status 2."""
     parser = parser_for(name)
-    options = options_of(parser.parse_args(given))
-    fault = "" if options.version else clash(options)
+    words = parser.parse_args(given)
+    options = options_of(words)
+    fault = "" if options.version else clash_of_hidden(words) or clash(options)
     if fault:
         parser.error(fault)
     return options
@@ -238,8 +248,18 @@ def version_lines() -> List[str]:
     return lines
 
 
+def stand_streams() -> None:
+    """Puts nothing in the place of standard streams that are closed, so that no file of the core takes their number."""
+    for fd in range(3):
+        try:
+            os.fstat(fd)
+        except OSError:
+            os.open(os.devnull, os.O_RDWR)
+
+
 def main(name: str, given: Sequence[str]) -> int:
     """The command by its name and words. Returns the status."""
+    stand_streams()
     call(name.split()[-1])
     if given[:1] == ["--handle"]:
         # (the kernel's program, which runs by itself)

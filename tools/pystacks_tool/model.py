@@ -248,6 +248,8 @@ class Report(NamedTuple):
     """The system's id of the thread that got the signal, where that is none of Python's."""
     ended: str = ""
     """What is said of the search for interpreters, where it ended before all was looked at."""
+    left_out: str = ""
+    """What is said of values of locals that are not shown, where there are any."""
 
     @property
     def threads(self) -> List[Thread]:

@@ -46,7 +46,9 @@ ROWS = (
     (items("set"), "set()"), (items("frozenset"), "frozenset()"), (items("frozenset", number(1)), "frozenset({1})"),
     (table((text("a"), number(1)), more=2), "{'a': 1, .. 2 more}"), (items("cell", {"kind": "absent"}), "<cell: empty>"),
     ({"kind": "class", "name": "m.C", "address": "0x10"}, "<class 'm.C'>"), ({"kind": "object", "type": "m.C", "address": "0x10"}, "<m.C at 0x10>"),
-    ({"kind": "object", "type": None, "address": "0x10"}, "<? at 0x10>"),
+    ({"kind": "object", "type": None, "address": "0x10"}, "<? at 0x10>"), ({"kind": "class", "name": None, "address": "0x10"}, "<class ?>"),
+    ({"kind": "object", "type": "x at 0x1>, 'password': 'y", "address": "0x10"}, "<\"x at 0x1>, 'password': 'y\" at 0x10>"),
+    ({"kind": "function", "name": "f", "file": "a b.py", "line": 3, "address": "0x10"}, "<function f at 0x10 ('a b.py':3)>"),
     ({"kind": "unreadable", "of": "str", "address": "0x10", "length": 4}, "<str: 4 bytes unreadable at 0x10>"),
     ({"kind": "damaged", "of": "int", "address": "0x10"}, "<int: broken at 0x10>"), ({"kind": "new"}, "<new>"),
 )
@@ -82,13 +84,17 @@ class Hidden(unittest.TestCase):
         self.assertEqual([it["repr"] for it in rows], [HIDDEN, "'y'", HIDDEN, HIDDEN, "3", HIDDEN])
         self.assertEqual(rows[0]["value"], {"kind": "hidden"})
 
+    def test_a_key_that_holds_it_deeper(self):
+        tree = table((items("tuple", text("a"), text("password")), text("hunter2")))
+        self.assertEqual(text_of(hidden(tree, SECRETS)), "{('a', 'password'): <hidden>}")
+
     def test_nothing_by_no_words(self):
         rows = [valued("password", text("x"))]
         hide(salvage(interpreter([thread(1, [frame("f", rows=rows)])])), ())
         self.assertEqual(rows[0]["repr"], "'x'")
 
     def test_tells_values(self):
-        for rows, wanted in ((None, False), ([], False), ([local("n", "1")], False), ([valued("n", number(1))], True), ([{**local("n", None), "value": None}], True)):
+        for rows, wanted in ((None, True), ([], True), ([local("n", "1")], False), ([valued("n", number(1))], True), ([{**local("n", None), "value": None}], True)):
             self.assertEqual(tells_values(salvage(interpreter([thread(1, [frame("e"), frame("f", rows=rows)])]))), wanted)
 
 
@@ -123,6 +129,15 @@ class Shown(Case):
             path = self.folder / "page.html"
             self.tool("-l", "--html", path, *words)
             self.assertEqual("hunter2" in path.read_text(encoding="utf-8"), wanted)
+
+    def test_left_out(self):
+        self.programs({**salvage(interpreter([thread(1, [frame("f", rows=[{**local("n", None), "value": None}])])])), "values_left_out": 7})
+        self.assertTrue(self.tool("-l")[1].endswith("            n: ?\n... 7 more values are not shown\n"))
+
+    def test_clashes(self):
+        self.shown(valued("n", number(12)))
+        for words in (("--show-secrets",), ("--hide", "n", "--collapsed")):
+            self.assertEqual(self.tool(*words)[0], 2)
 
     def test_plain_takes_no_hide(self):
         self.shown(valued("n", number(12)))

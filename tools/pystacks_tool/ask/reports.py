@@ -58,10 +58,21 @@ def asked_once(options: Options, core: OpenedCore, program: str) -> Tuple[Answer
     """What `pysalvage` answers, and whether native stacks are in it: so they are of a core that is handed over whole and has no more than
     `MANY` threads, where they are wanted by its signal."""
     known = core.known if core.part is None else Known()
-    joins = known.threads <= MANY and wants_native(options, program, known.signal)
-    answer = ask_over(options, core, program, joins)
-    # (what they alone need room for takes nothing from the others)
-    return (ask_over(options, core, program), False) if joins and answer.status == NO_ROOM else (answer, joins)
+    if known.threads <= MANY and wants_native(options, program, known.signal):
+        answer = asked_with_native(options, core, program)
+        if answer is not None:
+            return answer, True
+    return ask_over(options, core, program), False
+
+
+def asked_with_native(options: Options, core: OpenedCore, program: str) -> Optional[Answer]:
+    """The same with native stacks; nothing where there was no room, or a signal ended the program: what they alone need takes nothing from
+    the others."""
+    try:
+        answer = ask_over(options, core, program, True)
+    except Fault:
+        return None
+    return None if answer.status == NO_ROOM or answer.status < 0 else answer
 
 
 def ask_salvage(options: Options, core: OpenedCore, program: str) -> Outcome:
@@ -170,7 +181,10 @@ def ask_dump(options: Options, core: OpenedCore) -> Outcome:
         trees = json.loads(decoded(answer.out))
     except ValueError as error:
         raise Unexpected(f"its JSON: {error!r}") from None
-    hide_in_frames((frame for thread in trees for frame in thread["frames"]), options.hidden)
+    try:
+        hide_in_frames((frame for thread in trees for frame in thread["frames"]), options.hidden)
+    except (AttributeError, KeyError, TypeError) as error:
+        raise Unexpected(f"its JSON: {error!r}") from None
     report = report_by_dump(trees, core.known, core.name, options.frames)
     return Outcome(answer, arranged(report), tree_of(report, trees, options.frames))
 

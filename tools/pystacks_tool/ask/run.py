@@ -120,21 +120,27 @@ def status_of(waited: int) -> int:
 
 def ran(command: Sequence[bytes], fds: Sequence[int], out: int, lines: int) -> int:
     """Runs a program with its streams in these files, and with some files more, and returns how it ended. By the system's own call: the
-    import of the standard library's module for it takes as long as all else of the tool."""
+    import of the standard library's module for it takes as long as all else of the tool. What the tool inherited itself the program has too."""
     files = [(os.POSIX_SPAWN_DUP2, out, 1), (os.POSIX_SPAWN_DUP2, lines, 2)]
     were = [(fd, os.get_inheritable(fd)) for fd in fds]
-    for fd in fds:
-        os.set_inheritable(fd, True)
-    process = os.posix_spawn(command[0], list(command), os.environ, file_actions=files, setsigdef=(signal.SIGPIPE, signal.SIGXFSZ))
+    try:
+        for fd in fds:
+            os.set_inheritable(fd, True)
+        process = os.posix_spawn(command[0], list(command), os.environ, file_actions=files, setsigdef=(signal.SIGPIPE, signal.SIGXFSZ))
+        return waited_for(process)
+    finally:
+        for fd, was in were:
+            os.set_inheritable(fd, was)
+
+
+def waited_for(process: int) -> int:
+    """How a process ended, once it has. What ends the tool meanwhile ends it too."""
     try:
         return status_of(os.waitpid(process, 0)[1])
     except BaseException:
         os.kill(process, signal.SIGKILL)
         os.waitpid(process, 0)
         raise
-    finally:
-        for fd, was in were:
-            os.set_inheritable(fd, was)
 
 
 def answer_of(command: Sequence[bytes], fds: Sequence[int], own: bytes, name: bytes) -> Answer:

@@ -171,6 +171,11 @@ def ended_told(tree: Optional[Tree]) -> str:
     return "" if tree is None else f"the search ended after {tree['members']} members and {tree['addresses']} addresses"
 
 
+def left_out_told(count: Optional[int]) -> str:
+    """What is said of values of locals that are not shown, where there are any."""
+    return f"{count} more values are not shown" if count else ""
+
+
 def report_by_salvage(text: str, core: str, added: Callable[[Tree], NamesAndValues], hidden: Sequence[str] = ()) -> Tuple[Tree, Report]:
     """The JSON of one core with what is added to it, less what is hidden by words, and the report that it gives."""
     try:
@@ -184,6 +189,7 @@ def report_by_salvage(text: str, core: str, added: Callable[[Tree], NamesAndValu
         signal = signal_told(tree["signal_info"])
         layout = tuple(layout_lines(layout_told(tree.get(KEY))))
         return tree, Report(interpreters, version_told(tree), tree["signal"], told, tree["more"], True, core, signal, registers, layout,
-                            all_tasks(tree.get(TASKS)), ended=ended_told(tree.get("search_ended")))
+                            all_tasks(tree.get(TASKS)), ended=ended_told(tree.get("search_ended")),
+                            left_out=left_out_told(tree.get("values_left_out")))
     except (ValueError, KeyError, TypeError) as error:
         raise Unexpected(f"its JSON: {error!r}") from None

@@ -30,9 +30,9 @@ EMPTY = {"set": "set()", "frozenset": "frozenset()"}
 
 
 def tells_values(tree: Tree) -> bool:
-    """Whether a core's JSON tells values of locals itself: then each local has the key."""
+    """Whether a core's JSON tells values of locals itself: then each local has the key. Where there is no local nothing is missing."""
     first = next((row for member in members_of(tree) for row in member.get("locals") or ()), None)
-    return first is not None and "value" in first
+    return first is None or "value" in first
 
 
 def holds(name: str, words: Sequence[str]) -> bool:
@@ -74,8 +74,17 @@ def items_text(tree: Tree, parts: List[str]) -> str:
 
 
 def named(tree: Tree, key: str = "name") -> str:
-    """A name, or a question mark."""
-    return str(tree[key]) if tree.get(key) is not None else "?"
+    """A name, or a question mark. One that could be taken for more than a name stands in quotes."""
+    name = tree.get(key)
+    if name is None:
+        return "?"
+    is_plain = name and all(it.isprintable() and it not in " '\"" for it in name)
+    return str(name) if is_plain else repr(name)
+
+
+def quoted(tree: Tree) -> str:
+    """A name in quotes, or a question mark."""
+    return "?" if tree.get("name") is None else repr(tree["name"])
 
 
 LEAVES: Dict[str, Callable[[Tree], str]] = {
@@ -83,9 +92,9 @@ LEAVES: Dict[str, Callable[[Tree], str]] = {
     "absent": lambda it: "empty", "bool": lambda it: str(it["value"]), "int": number_text, "long": number_text, "float": lambda it: str(it["text"]),
     "str": lambda it: with_rest(repr(it["value"]), len(it["value"]), it, "characters"),
     "unicode": lambda it: with_rest("u" + ascii(it["value"]), len(it["value"]), it, "characters"),
-    "bytes": bytes_text, "bytearray": bytes_text, "class": lambda it: f"<class {named(it)!r}>",
+    "bytes": bytes_text, "bytearray": bytes_text, "class": lambda it: f"<class {quoted(it)}>",
     "function": lambda it: f"<function {named(it)} at {it['address']} ({named(it, 'file')}:{it['line']})>",
-    "builtin": lambda it: f"<built-in function {named(it)}>", "module": lambda it: f"<module {named(it)!r}>",
+    "builtin": lambda it: f"<built-in function {named(it)}>", "module": lambda it: f"<module {quoted(it)}>",
     "object": lambda it: f"<{named(it, 'type')} at {it['address']}>",
     "unreadable": lambda it: f"<{it['of']}: {it['length']} bytes unreadable at {it['address']}>",
     "damaged": lambda it: f"<{it['of']}: broken at {it['address']}>",
@@ -108,10 +117,11 @@ def text_of(tree: Tree, levels: int = LEVELS) -> str:
 
 
 def key_name(tree: Tree) -> str:
-    """A key, where it is a text or bytes; else nothing."""
+    """A key by which is told whether it holds a word: what it says, of a text or bytes, and else its text, which has all that is shown
+    of what it holds."""
     if isinstance(tree.get("hex"), str):
         return bytes.fromhex(tree["hex"]).decode("latin-1")
-    return str(tree["value"]) if tree["kind"] in ("str", "unicode") else ""
+    return str(tree["value"]) if tree["kind"] in ("str", "unicode") else text_of(tree)
 
 
 def hidden_pair(pair: List[Tree], words: Sequence[str], levels: int) -> List[Tree]:

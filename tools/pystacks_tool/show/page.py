@@ -110,8 +110,7 @@ def stacks_part(report: Report, front: str, style: Style) -> str:
             count += 1
     if report.has_more:
         parts.append("<p class=\"end\">... more than 16 interpreters</p>")
-    if report.ended:
-        parts.append(f"<p class=\"end\">... {text(report.ended)}</p>")
+    parts += [f"<p class=\"end\">... {text(it)}</p>" for it in (report.ended, report.left_out) if it]
     return "\n".join(it for it in parts if it)
 
 

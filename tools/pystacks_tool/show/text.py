@@ -381,8 +381,7 @@ def others_lines(report: Report, style: Style, room: int) -> Iterator[str]:
         yield style.paint(rest_line(left), DIM)
     if report.has_more:
         yield "... more than 16 interpreters"
-    if report.ended:
-        yield f"... {report.ended}"
+    yield from (f"... {it}" for it in (report.ended, report.left_out) if it)
 
 
 def register_lines(report: Report, _: Style, __: int) -> Iterator[str]:
