@@ -1,5 +1,6 @@
 -- The values of locals, by their addresses. That all of a process have so many nodes together is this project's bound.
-use Rattle.std.specs.Prelude.{◌≡◌, ℕ, zero, suc, ◌+◌, ◌-◌, ◌*◌, max, min, nat_eq, if◌then◌else◌, List, [], ◌∷◌, length, Option}
+use Rattle.std.specs.Prelude.{◌≡◌, ℕ, zero, suc, ◌+◌, ◌-◌, ◌*◌, max, min, nat_eq, if◌then◌else◌, List, [], ◌∷◌}
+use Rattle.std.specs.Prelude.{length, Option}
 use Rattle.std.specs.Prelude.{Some, None, option_map}
 use Rattle.std.specs.BTreeMap.{BTreeMap, get}
 use Rattle.std.specs.List.{list_any}
@@ -51,8 +52,8 @@ read_of value addresses = within value node_limit addresses
 abbrev pub value_at : Layout → ReprTypes → Memory → (times : ℕ) → ℕ → Tree
 value_at l t m times a = repr_at l t (limits_at times) m (limits_at times).levels (limits_at times).nodes a
 
--- the values of some addresses are read by one `-l`, then by two, and so on: the value at an address is that of the last
--- round in which it is within the limit
+-- the values of some addresses are read by one `-l`, then by two, and so on: the value at an address is that of the
+-- last round in which it is within the limit
 unfoldable pub value_by : (ℕ → ℕ → Tree) → (rounds : ℕ) → List ℕ → ℕ → Option Tree
 value_by value zero addresses a = None
 value_by value (suc rounds) addresses a =
@@ -64,8 +65,8 @@ left_by value zero addresses = length addresses
 left_by value (suc rounds) addresses =
     min (left_by value rounds addresses) (length addresses - length (read_of (value (suc rounds)) addresses))
 
--- the values of some addresses, by so many rounds: each has the one of memory, no other address has one, and how many have
--- none is told
+-- the values of some addresses, by so many rounds: each has the one of memory, no other address has one, and how many
+-- have none is told
 pub record AreValues (l : Layout) (t : ReprTypes) (m : Memory) (rounds : ℕ) (addresses : List ℕ)
     (values : LocalValues) : Type 0 where
   pub are : (a : ℕ) → value_in values a ≡ value_by (value_at l t m) rounds addresses a

@@ -1,8 +1,8 @@
 //! The values of the locals of the frames that are shown of a broken process, by their addresses.
 //!
-//! Of each local a frame keeps the address of its value. Each such address is read once, however many locals have it,
-//! in the order in which the frames are shown. No value is begun once those before it have so many nodes together; what
-//! is left out is counted.
+//! Of each local a frame keeps the address of its value. Each such address is read once in each round, however many
+//! locals have it, in the order in which the frames are shown. No value is begun once those before it have so many
+//! nodes together; what is left out is counted.
 #![tactic(auto)]
 
 mod addresses;

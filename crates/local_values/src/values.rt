@@ -53,8 +53,8 @@ fn keep(values: &mut BTreeMap<u64, Repr>, addr: u64, value: Repr) -> Result<(), 
     Ok(())
 }
 
-/// Reads the values at some addresses, as they are shown within limits, until those that were read have so many nodes: each
-/// takes the place of the one that was there before. How many addresses are behind is told.
+/// Reads the values at some addresses, as they are shown within limits, until those that were read have so many nodes:
+/// each takes the place of the one that was there before. How many addresses are behind is told.
 fn read_round<P: ProcessMemory>(
     alloc: Global,
     process: &mut P,
@@ -127,11 +127,11 @@ fn rounds_of(times: u32) -> u32
 
 /// The values of the locals of all frames that are shown of these interpreters, by so many `-l`.
 ///
-/// They are read in rounds: each address by one `-l` (`Limits::at`), then each by two, and so on, from one round to five.
-/// In each the addresses stand in the order of `shown_addresses`, and one is read where those before it have fewer than
-/// 2^20 nodes together in that round, one for each value and one for each within it. The value at an address is that of
-/// the last round in which it was read, so that what is shown by fewer `-l` is shown by more. The addresses that were read
-/// in no round are left out, and counted.
+/// They are read in rounds: each address by one `-l` (`Limits::at`), then each by two, and so on, from one round to
+/// five. In each the addresses stand in the order of `shown_addresses`, and one is read where those before it have
+/// fewer than 2^20 nodes together in that round, one for each value and one for each within it. The value at an address
+/// is that of the last round in which it was read, so that an address that has one by fewer `-l` has one by more. The
+/// addresses that were read in no round are left out, and counted.
 ///
 /// What is not in memory is told in the values. The one error is want of memory. At most as many reads for each address
 /// and round as `read_repr` makes.

@@ -1,6 +1,7 @@
 -- The sections that are read in a process's memory: each is asked for by a flag of its own, and is told of each
 -- interpreter, or of each thread, of those that are shown.
-use Rattle.std.specs.Prelude.{◌≡◌, ℕ, ◌/◌, nat_eq, Bool, true, false, List, [], length, map, Option, Some, None, Ok, Vec}
+use Rattle.std.specs.Prelude.{◌≡◌, ℕ, ◌/◌, nat_eq, Bool, true, false, List, [], length, map, Option, Some, None}
+use Rattle.std.specs.Prelude.{Ok, Vec}
 use Rattle.std.specs.Prelude.{if◌then◌else◌}
 use Rattle.std.specs.Global.{Global}
 use Rattle.process_memory.specs.Memory.{Memory}
@@ -97,9 +98,9 @@ NativeAre asked strict bytes images m is told =
 
 -- ---- all of them
 
--- What is told of a process whose core has these bytes and was opened with these images, by which this is known of it, by
--- a layout and the records of its version, over this memory, and of whose interpreters these are shown; values of locals
--- by so many `-l`.
+-- What is told of a process whose core has these bytes and was opened with these images, by which this is known of it,
+-- by a layout and the records of its version, over this memory, and of whose interpreters these are shown; values of
+-- locals by so many `-l`.
 pub record AreMemoryTold (asked : Sections) (times : ℕ) (bytes : List ℕ) (images : Pushed) (k : Known) (l : Layout)
     (r : Records) (m : Memory) (is : List SalvagedInterpreter) (told : MemoryTold) : Type 0 where
   pub names : NamesAre asked.names l (rule_of l r) m is told.names

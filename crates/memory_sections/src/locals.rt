@@ -70,8 +70,8 @@ fn levels_of(times: u64) -> u32
     times.min(5) as u32
 }
 
-/// The values of the locals of the frames that are shown, where `-l` was given at least once. Reads that are refused are
-/// kept.
+/// The values of the locals of the frames that are shown, where `-l` was given at least once. Reads that are refused
+/// are kept.
 pub(crate) fn values_section(
     alloc: Global,
     times: u64,

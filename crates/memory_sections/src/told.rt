@@ -50,8 +50,8 @@ pub fn names_told(told: &MemoryTold) -> &[InterpreterNames]
 }
 
 /// What is told in the sections that are asked for of an opened process, of whose interpreters these are shown, by the
-/// records of its version and the images with which it was opened; with the values of locals, by so many `-l`. Reads that
-/// are refused are kept.
+/// records of its version and the images with which it was opened; with the values of locals, by so many `-l`. Reads
+/// that are refused are kept.
 ///
 /// What can't be had of a section is told in it. The one error is want of memory.
 pub fn tell_memory(

@@ -1,7 +1,7 @@
 -- Questions whose answers are known, of what the modules `sys` and `builtins` have: a program can change that. That an
--- interpreter has its modules in a dict, by their names, and a module what it defines in its own, is CPython's rule, and
--- so are the values (`sys.maxunicode` from 3.3 on, `sys.float_info` of IEEE 754's binary64, `True`); which are asked,
--- of the first interpreter alone, and that so many slots of a dict are looked at, at most, is this project's.
+-- interpreter has its modules in a dict, by their names, and a module what it defines in its own, is CPython's rule,
+-- and so are the values (`sys.maxunicode` from 3.3 on, `sys.float_info` of IEEE 754's binary64, `True`); which are
+-- asked, of the first interpreter alone, and that so many slots of a dict are looked at, at most, is this project's.
 use Rattle.std.specs.Prelude.{ℕ, ℤ, ◌+◌, ◌==◌, ◌&&◌, not, is_some, Bool, List, [], ◌∷◌, codes}
 use Rattle.std.specs.Prelude.{Option, Some, None, Result, Ok, Err}
 use Rattle.std.specs.Int.{w64, cast_unsigned}

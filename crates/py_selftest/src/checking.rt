@@ -49,8 +49,8 @@ pub enum Verdict {
     Agrees,
     /// One that is told is another one.
     Differs,
-    /// None of at least eight frames that were met has a known answer that is right; or needed numbers are not told, and
-    /// `type` says of itself what can't be.
+    /// None of at least eight frames that were met has a known answer that is right; or needed numbers are not told,
+    /// and `type` says of itself what can't be.
     Doubtful,
     /// Needed numbers are not told.
     Silent,
@@ -180,8 +180,8 @@ fn unconfirmed(doubted: bool) -> Verdict
     }
 }
 
-/// What is said of a layout by its numbers, how many frames were met, and the known answers. `doubted` is whether `type`
-/// says of itself what can't be.
+/// What is said of a layout by its numbers, how many frames were met, and the known answers. `doubted` is whether
+/// `type` says of itself what can't be.
 fn verdict_of(doubted: bool, frames: u64, known: &[Answer], keys: &[KeyTold]) -> Verdict
     ensures { result ≡ verdict_of doubted frames known.now (map key_shown keys.now) }
 {
@@ -359,7 +359,8 @@ fn check_if<P: ProcessMemory>(
 ) -> Result<LayoutCheck, ReadFault>
     requires sound { IsSound layout.now }
     ensures { Reads read_fault 129679 (P.seen process.old) (P.seen process.new)
-        (λ m. check_if m layout.now types.now runtime release pointers.now threads.now described) (check_result result) }
+        (λ m. check_if m layout.now types.now runtime release pointers.now threads.now described)
+        (check_result result) }
 {
     if described {
         return described_check(
@@ -386,9 +387,9 @@ fn check_if<P: ProcessMemory>(
 ///
 /// `Differs` comes where a number that is told is not the layout's; else `Doubtful` where at least eight frames were
 /// met whose code names a file, and none has a right answer; else `Agrees` where the needed ones are told: those of
-/// code, and before 3.11 those of frames; else `Doubtful` where `type` says that its word of a size stands elsewhere, and `Silent` where not.
-/// `NotDescribed` comes for other versions than 2.7 and 3.6 to 3.13, with no numbers. Known answers decide nothing
-/// else: a broken process fails some.
+/// code, and before 3.11 those of frames; else `Doubtful` where `type` says that its word of a size stands elsewhere,
+/// and `Silent` where not. `NotDescribed` comes for other versions than 2.7 and 3.6 to 3.13, with no numbers. Known
+/// answers decide nothing else: a broken process fails some.
 ///
 /// What is not in memory tells nothing and answers nothing: that is no error. The one error is want of memory. At most
 /// 129679 reads.
@@ -409,8 +410,8 @@ pub fn check_layout<P: ProcessMemory>(
         (λ m. check_at m layout.now types.now runtime release pointers.now threads.now) (check_result result) }
 
     // where the answer is Agrees, each number of the layout that is told is the one in memory, the needed ones are
-    // told, and of eight frames that were met one has an answer that is right; where it is Differs, the memory has another number
-    // than the layout
+    // told, and of eight frames that were met one has an answer that is right; where it is Differs, the memory has
+    // another number than the layout
     ensures says { IfOk result (λ check. Says (check_shown check)) }
 {
     let described = is_described(release);

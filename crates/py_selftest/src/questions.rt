@@ -270,8 +270,8 @@ fn has_value(count: u64, object: u64) -> bool
     count % 0x1_0000_0000 != 0 && object != 0
 }
 
-/// Whether the first variable of a frame has a class that is a type, where its code has one, and it has a value. At most
-/// 5 reads.
+/// Whether the first variable of a frame has a class that is a type, where its code has one, and it has a value. At
+/// most 5 reads.
 fn local_told<P: ProcessMemory>(
     process: &mut P,
     layout: &Layout,

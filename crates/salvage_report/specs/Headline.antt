@@ -144,9 +144,9 @@ pub record SaysNative (s : Salvage) (told : Told) (old new : SinkSeen) : Type 0 
   pub are : AreNative s.sections.strict has.core (images_read s.images has.images) (memory_in has.opened.dumped)
       (python_threads has.left.salvaged.interpreters.items) stacks
 
--- The values of the locals of the frames that are shown, by so many `-l`: those of memory, by the types that the symbols
--- of the process's images name (`repr_at` of py_reprs), and of each its text and, where JSON is asked for, its JSON
--- (`Writes` of repr_texts, `IsJson` of repr_json).
+-- The values of the locals of the frames that are shown, by so many `-l`: those of memory, by the types that the
+-- symbols of the process's images name (`repr_at` of py_reprs), and of each its text and, where JSON is asked for, its
+-- JSON (`Writes` of repr_texts, `IsJson` of repr_json).
 pub record SaysValues (s : Salvage) (told : Told) (old new : SinkSeen) : Type 0 where
   pub has : HasSalvaged s told old new
   pub values : LocalValues

@@ -47,8 +47,8 @@ abbrev pub rest_text : Left → List ℕ
 rest_text left = section_text threads_text (registers_shown left.told.registers)
     ++ (section_text check_text (check_of left.check) ++ left_out_text (values_left_out left.memory.values))
 
--- the signal, beside the core's name, and how it came about; the process, the version, and what is left; what is told in
--- the sections that are read in memory; and the rest
+-- the signal, beside the core's name, and how it came about; the process, the version, and what is left; what is told
+-- in the sections that are read in memory; and the rest
 abbrev pub left_text : List ℕ → (limit : ℕ) → Left → List ℕ
 left_text core limit left = signal_text (core_name core) left.signal ++ (section_text info_text left.told.signal
     ++ (process_text left.process ++ (version_line left.named left.version

@@ -1,5 +1,5 @@
--- The values of locals, as they are shown: for each address of a local that is shown the text of its value, and its JSON
--- where that is asked for.
+-- The values of locals, as they are shown: for each address of a local that is shown the text of its value, and its
+-- JSON where that is asked for.
 use Rattle.std.specs.Prelude.{◌≡◌, ℕ, nat_eq, Bool, true, false, if◌then◌else◌, List, Option, Some, None, ⊤}
 use Rattle.std.specs.List.{list_any}
 use Rattle.serde_json.specs.Data.{Data}
@@ -34,7 +34,8 @@ abbrev pub for_json : Bool → Option Tree → Option Tree
 for_json json value = if json then value else None
 
 -- the values at some addresses are shown, and no others
-pub record AreShown (json : Bool) (values : Option LocalValues) (addresses : List ℕ) (shown : ShownValues) : Type 0 where
+pub record AreShown (json : Bool) (values : Option LocalValues) (addresses : List ℕ) (shown : ShownValues)
+    : Type 0 where
   pub texts : (a : ℕ) → IsTextOf (value_of values addresses a) (text_in shown a)
   pub trees : (a : ℕ) → IsJsonOf (for_json json (value_of values addresses a)) (data_in shown a)
 

@@ -60,8 +60,8 @@ fn show_each(
     Ok(shown)
 }
 
-/// The values of the locals of some interpreters, as they are shown: none where none are asked for. The one error is want
-/// of memory.
+/// The values of the locals of some interpreters, as they are shown: none where none are asked for. The one error is
+/// want of memory.
 pub fn shown_values(
     alloc: Global,
     json: bool,
