@@ -69,6 +69,13 @@ class OpenedCore:
         return known_at(f"/proc/self/fd/{self.prepared.fileno()}")
 
     @property
+    def has_interpreter(self) -> bool:
+        """Whether an interpreter may have been there when the process ended: false where Python's own record names none."""
+        from pystacks_tool.cores.running import has_no_interpreter
+
+        return not has_no_interpreter(self.word, self.images)
+
+    @property
     def word(self) -> str:
         """The programs' word for it."""
         return f"/proc/self/fd/{self.prepared.fileno()}" if self.prepared else self.name
