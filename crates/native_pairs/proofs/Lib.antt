@@ -1,0 +1,4 @@
+pub mod Items
+pub mod NamePieces
+pub mod Orders
+pub mod Paired

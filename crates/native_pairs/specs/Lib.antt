@@ -1,0 +1,4 @@
+pub mod Items
+pub mod Kinds
+pub mod Order
+pub mod Pairs

@@ -1,0 +1,34 @@
+-- The runs of a thread.
+use Rattle.std.specs.Prelude.{ℕ, Bool, true, false, List, [], map, Option, Some, None}
+use Rattle.process_memory.specs.Memory.{Memory}
+use Rattle.py_fields.specs.declared.layout.Layout.{Layout}
+use Rattle.py_runs.specs.Cuts.{c_runs, plain_run, shim_run, spans_of}
+use Rattle.py_runs.specs.Members.{c_frames_from, current_of, members_from, named_by}
+use Rattle.py_runs.specs.declared.cut.Run.{Run}
+use Rattle.py_runs.specs.declared.cut.Span.{Span}
+use Rattle.py_runs.specs.declared.run_rule.RunEnd.{RunEnd}
+use Rattle.py_runs.specs.declared.run_rule.RunEnd.TheVariants.{Each, Entry, Shim}
+
+abbrev pub has_shims : RunEnd → Bool
+has_shims Each = false
+has_shims (Entry place current previous) = false
+has_shims (Shim place owner) = true
+
+-- runs with their borders, where the thread names what it does
+abbrev pub bordered : RunEnd → Memory → (named : ℕ) → List Span → List Run
+bordered Each m named rs = map plain_run rs
+bordered (Entry place current previous) m named rs = c_runs (c_frames_from current previous m 1048576 named) rs
+bordered (Shim place owner) m named rs = map shim_run rs
+
+abbrev pub spans_by : Layout → RunEnd → Memory → (count : ℕ) → Option ℕ → List Span
+spans_by l e m count (Some first) = spans_of (has_shims e) (members_from l e m count first)
+spans_by l e m count None = []
+
+abbrev pub runs_by : Layout → RunEnd → Memory → (count : ℕ) → Option ℕ → List Run
+runs_by l e m count (Some named) =
+    bordered e m named (spans_by l e m count (current_of m l.cframe named))
+runs_by l e m count None = []
+
+-- those of a thread, of whose frames so many are asked for, from the newest on
+abbrev pub runs_at : Layout → RunEnd → Memory → (thread count : ℕ) → List Run
+runs_at l e m thread count = runs_by l e m count (named_by l m thread)
