@@ -229,7 +229,7 @@ def sections_asked(words: Sequence[str]) -> Sequence[str]:
     return [it for it in options_of(words) if it in SECTIONS]
 
 
-SECTIONS = ("--signal", "--registers", "--missing", "--check-layout", "--names", "--tasks", "--exceptions", "--native")
+SECTIONS = ("--signal", "--registers", "--missing", "--check-layout", "--names", "--tasks", "--exceptions", "--waits", "--native")
 """The flags of all sections."""
 
 OWN_TEXTS = ("--exceptions", "--native")

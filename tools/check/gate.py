@@ -60,6 +60,7 @@ CHECKS = (
     Check("tests/test_collapse"),
     Check("tests/test_exceptions"),
     Check("tests/test_values"),
+    Check("tests/test_waits"),
     Check("tests/test_core_text"),
     Check("tests/test_layout_check"),
     Check("tests/test_layout_from_core"),
@@ -105,6 +106,8 @@ CHECKS = (
     Check("real/real_tasks", OF_SALVAGE),
     Check("real/real_exceptions", OF_SALVAGE),
     Check("real/real_values", OF_SALVAGE),
+    Check("real/real_waits", OF_BOTH),
+    Check("real/real_refusals", OF_BOTH),
 )
 """What is run, in order."""
 

@@ -7,7 +7,7 @@ from typing import Any, Collection, Dict, Iterable, List, Optional, Sequence
 
 import rooms  # noqa: F401
 from child_cores import Failure
-from section_text import check_sections, layout_lines, name_lines, register_lines, signal_lines
+from section_text import check_sections, layout_lines, name_lines, register_lines, signal_lines, wait_lines
 from tasks_text import task_lines
 from pystacks_tool.ask.salvage import frames_end, locals_fault, threads_end, unreadable, why_of
 
@@ -171,7 +171,7 @@ def check_told(tree: object, limit: int, sections: Collection[str] = ()) -> None
     sections."""
     need_keys(tree, "exceptions", "interpreters", "layout_check", "missing", "more", "names", "native", "process", "registers",
               "search_ended", "signal", "signal_info", "tasks", *(["values_left_out"] if "values_left_out" in tree else []), "version",
-              "version_by_names")
+              "version_by_names", "waits")
     need_number(tree.get("values_left_out", 0))
     check_sections(tree, sections)
     need_truths(tree["more"], tree["version_by_names"])
@@ -278,6 +278,7 @@ def text_of(tree: Tree, core: str) -> str:
     lines += [f"... the search ended after {ended['members']} members and {ended['addresses']} addresses"] if ended else []
     lines += [front + escaped(name, False) for front, name in name_lines(tree)]
     lines += task_lines(tree["tasks"] or [])
+    lines += wait_lines(tree["waits"] or [])
     lines += register_lines(tree)
     lines += layout_lines(tree)
     left_out = tree.get("values_left_out", 0)

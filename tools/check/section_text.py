@@ -119,7 +119,7 @@ def check_sections(tree: Tree, asked: Collection[str]) -> None:
     """Fails where a section isn't there by its flag, or has not what it has to have."""
     for key, flag in (("signal_info", "--signal"), ("registers", "--registers"), ("missing", "--missing"),
                       ("layout_check", "--check-layout"), ("names", "--names"), ("tasks", "--tasks"), ("exceptions", "--exceptions"),
-                      ("native", "--native")):
+                      ("waits", "--waits"), ("native", "--native")):
         if (tree[key] is not None) != (flag in asked):
             raise Failure(f"the section {key} is {tree[key]!r}, where {asked!r} are asked for")
     if tree["signal_info"] is not None:
@@ -132,6 +132,8 @@ def check_sections(tree: Tree, asked: Collection[str]) -> None:
         check_layout(tree["layout_check"])
     if tree["names"] is not None:
         check_names(tree)
+    if tree["waits"] is not None:
+        check_waits(tree)
     if tree["tasks"] is not None:
         check_tasks(tree)
 
@@ -151,6 +153,36 @@ def check_names(tree: Tree) -> None:
             raise Failure(f"names under a fault: {names!r}")
     if shown:
         raise Failure(f"no names of {sorted(shown)}")
+
+
+WAITED = {"gil": (), "lock": ("address",), "queue": ("address",), "rlock": ("address", "owner")}
+"""What a thread may wait for, by its kind, and what is told of that."""
+
+
+def check_waits(tree: Tree) -> None:
+    """Fails where what is told isn't of the threads that are shown, in their order, or not of a kind that there is."""
+    shown = {it["address"]: [row["thread_id"] for row in it["threads"]] for it in tree["interpreters"]}
+    for waits in tree["waits"]:
+        check_keys(waits, "interpreter", "threads")
+        for row in waits["threads"]:
+            check_keys(row, "for", "thread_id")
+            if row["for"] is not None:
+                check_keys(row["for"], "kind", *WAITED[row["for"]["kind"]])
+        if sorted(shown.pop(waits["interpreter"], ())) != sorted(it["thread_id"] for it in waits["threads"]):
+            raise Failure(f"waits of other threads: {waits!r}")
+    if shown:
+        raise Failure(f"no waits of {sorted(shown)}")
+
+
+def wait_lines(waits: Sequence[Tree]) -> List[str]:
+    """The lines of what threads wait for, where it is known."""
+    words = {"gil": "the GIL", "lock": "Lock", "rlock": "RLock", "queue": "SimpleQueue"}
+    lines = []
+    for row in (row for it in waits for row in it["threads"] if row["for"] is not None):
+        told = row["for"]
+        owner = f" of thread 0x{told['owner']:X}" if told.get("owner") is not None else ""
+        lines.append(f"Thread 0x{row['thread_id']:X} waits for {' '.join([words[told['kind']], *filter(None, [told.get('address')])])}{owner}")
+    return lines
 
 
 def name_lines(tree: Tree) -> List[Tuple[str, str]]:

@@ -36,6 +36,17 @@ class Frame(NamedTuple):
         return self.name, self.filename, self.line, self.why
 
 
+class Wait(NamedTuple):
+    """What a thread waits for."""
+
+    kind: str
+    """What it is, in a word."""
+    address: str = ""
+    """The object's address, where it is one."""
+    owner: Optional[int] = None
+    """The id, as the interpreter gave it, of the thread that holds it, where that is known."""
+
+
 class Thread(NamedTuple):
     """A thread, with its newest frame first."""
 
@@ -61,6 +72,10 @@ class Thread(NamedTuple):
     """The lines of what it raises and handles, where that is asked for."""
     exception: Tuple[str, str] = ("", "")
     """The first of it in a line, and which it is: raised or handled."""
+    wait: Optional[Wait] = None
+    """What it waits for, where that is asked for and known."""
+    waits: str = ""
+    """The same in words."""
 
     @property
     def label(self) -> str:
@@ -250,6 +265,8 @@ class Report(NamedTuple):
     """What is said of the search for interpreters, where it ended before all was looked at."""
     left_out: str = ""
     """What is said of values of locals that are not shown, where there are any."""
+    deadlocks: Tuple[str, ...] = ()
+    """The rings of threads that wait for each other, each in a line."""
 
     @property
     def threads(self) -> List[Thread]:
@@ -270,9 +287,10 @@ class Stack:
 
 
 def key_of(thread: Thread) -> Tuple[object, ...]:
-    """What threads are compared by: functions, files, lines and ends."""
+    """What threads are compared by: functions, files, lines and ends, and what kind of thing they wait for, and who holds that."""
     frames = tuple((it.place, it.fault) for it in thread.frames)
-    return frames, thread.first if thread.between else None, thread.between, thread.end
+    wait = None if thread.wait is None else (thread.wait.kind, thread.wait.owner)
+    return frames, thread.first if thread.between else None, thread.between, thread.end, wait
 
 
 def stacks_of(threads: Sequence[Thread], is_merged: bool = True) -> List[Stack]:

@@ -29,6 +29,8 @@ class Options(NamedTuple):
     """Whether the tasks of asyncio are."""
     exceptions: bool = True
     """Whether the exceptions of threads are."""
+    waits: bool = True
+    """Whether it is told what threads wait for."""
     native: bool = False
     """Whether native stacks are."""
     strict: bool = False

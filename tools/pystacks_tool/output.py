@@ -74,7 +74,7 @@ def refused(answer: Answer, core: Optional[OpenedCore] = None) -> int:
         say(known.line)
     write_all(2, one_line(answer.said))
     is_cut = core is not None and any(it.startswith("core is cut") for it in core.done)
-    say_next(next_of(decoded(answer.said), is_cut, known.other))
+    say_next(next_of(decoded(answer.said), is_cut, known.other, lambda: core is None or core.has_interpreter))
     return end_as(answer.status)
 
 

@@ -1,3 +1,4 @@
 pub mod Each
 pub mod Noting
 pub mod Plain
+mod Standings

@@ -12,7 +12,9 @@ use Rattle.thread_names.proofs.Plain.{no_float as all_names}
 use Rattle.thread_names.specs.declared.names.InterpreterNames.{InterpreterNames}
 use Rattle.exception_texts.proofs.Plain.{no_float as all_exceptions}
 use Rattle.exception_texts.specs.declared.told.InterpreterExceptions.{InterpreterExceptions}
-use Rattle.memory_sections.specs.Values.{exceptions_tree_if, names_tree_if, native_tree_if, tasks_tree_if}
+use Rattle.py_waits.proofs.Plain.{no_float as all_waits}
+use Rattle.py_waits.specs.declared.told.InterpreterWaits.{InterpreterWaits}
+use Rattle.memory_sections.specs.Values.{exceptions_tree_if, names_tree_if, native_tree_if, tasks_tree_if, waits_tree_if}
 
 pub names : (told : Option (Vec InterpreterNames Global)) → has_float (names_tree_if told) ≡ false
 names None = refl
@@ -25,6 +27,10 @@ tasks (Some told) = all_tasks told.items
 pub exceptions : (told : Option (Vec InterpreterExceptions Global)) → has_float (exceptions_tree_if told) ≡ false
 exceptions None = refl
 exceptions (Some told) = all_exceptions told.items
+
+pub waits : (told : Option (Vec InterpreterWaits Global)) → has_float (waits_tree_if told) ≡ false
+waits None = refl
+waits (Some told) = all_waits told.items
 
 pub native : (limit : ℕ) (told : Option NativeStacks) → has_float (native_tree_if limit told) ≡ false
 native limit None = refl

@@ -15,6 +15,8 @@ use Rattle.task_texts.specs.declared.told.InterpreterTasks.{InterpreterTasks}
 use Rattle.thread_names.specs.Trees.{fault_word, thread_fault_word}
 use Rattle.thread_names.specs.declared.names.InterpreterNames.{InterpreterNames}
 use Rattle.thread_names.specs.declared.names.ThreadName.{ThreadName}
+use Rattle.py_waits.specs.Text.{waits_text as all_waits_text}
+use Rattle.py_waits.specs.declared.told.InterpreterWaits.{InterpreterWaits}
 use Rattle.memory_sections.specs.declared.told.MemoryTold.{MemoryTold}
 
 -- what stands in front of a thread's name
@@ -83,6 +85,12 @@ abbrev pub exceptions_text : Option (Vec InterpreterExceptions Global) → List 
 exceptions_text None = []
 exceptions_text (Some exceptions) = all_exceptions_text exceptions.items
 
+-- ---- waits
+
+abbrev pub waits_text : Option (Vec InterpreterWaits Global) → List ℕ
+waits_text None = []
+waits_text (Some waits) = all_waits_text waits.items
+
 -- ---- native stacks
 
 abbrev pub native_text : (limit : ℕ) → Option NativeStacks → List ℕ
@@ -92,4 +100,4 @@ native_text limit (Some stacks) = stacks_text limit (stacks_shown stacks)
 -- all of them, in order
 abbrev pub memory_text : (limit : ℕ) → MemoryTold → List ℕ
 memory_text limit told = names_text told.names ++ (tasks_text told.tasks ++ (exceptions_text told.exceptions
-    ++ native_text limit told.native))
+    ++ (waits_text told.waits ++ native_text limit told.native)))

@@ -33,6 +33,7 @@ use Rattle.memory_sections.specs.Each.{EachTold}
 pub use Rattle.memory_sections.specs.Each.{ToldIf}
 use Rattle.memory_sections.specs.Exceptions.{ExceptionsAre}
 use Rattle.memory_sections.specs.Locals.{ValuesAre}
+use Rattle.memory_sections.specs.Waits.{WaitsAre}
 use Rattle.memory_sections.specs.declared.told.MemoryTold.{MemoryTold}
 
 -- ---- names
@@ -106,5 +107,6 @@ pub record AreMemoryTold (asked : Sections) (times : ℕ) (bytes : List ℕ) (im
   pub names : NamesAre asked.names l (rule_of l r) m is told.names
   pub tasks : TasksAre asked.tasks l r m is told.tasks
   pub exceptions : ExceptionsAre asked.exceptions l r m is told.exceptions
+  pub waits : WaitsAre asked.waits bytes k l r m is told.waits
   pub native : NativeAre asked.native asked.strict bytes images m is told.native
   pub values : ValuesAre times k l m is told.values

@@ -7,6 +7,8 @@ use Rattle.native_stacks.specs.Trees.{stacks_tree}
 use Rattle.native_stacks.specs.declared.stacks.NativeStacks.{NativeStacks}
 use Rattle.exception_texts.specs.Trees.{all_exceptions_tree}
 use Rattle.exception_texts.specs.declared.told.InterpreterExceptions.{InterpreterExceptions}
+use Rattle.py_waits.specs.Trees.{waits_tree}
+use Rattle.py_waits.specs.declared.told.InterpreterWaits.{InterpreterWaits}
 use Rattle.task_texts.specs.Trees.{all_tasks_tree}
 use Rattle.task_texts.specs.declared.told.InterpreterTasks.{InterpreterTasks}
 use Rattle.thread_names.specs.Trees.{names_tree}
@@ -23,6 +25,10 @@ tasks_tree_if (Some tasks) = all_tasks_tree tasks.items
 abbrev pub exceptions_tree_if : Option (Vec InterpreterExceptions Global) → Data
 exceptions_tree_if None = null
 exceptions_tree_if (Some exceptions) = all_exceptions_tree exceptions.items
+
+abbrev pub waits_tree_if : Option (Vec InterpreterWaits Global) → Data
+waits_tree_if None = null
+waits_tree_if (Some waits) = waits_tree waits.items
 
 abbrev pub native_tree_if : (limit : ℕ) → Option NativeStacks → Data
 native_tree_if limit None = null

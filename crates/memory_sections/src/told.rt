@@ -11,6 +11,7 @@ use crate::locals::values_section;
 use crate::names::names_section;
 use crate::native::native_section;
 use crate::tasks::tasks_section;
+use crate::waits::waits_section;
 use core_stacks::Process;
 use exception_texts::InterpreterExceptions;
 use image_memory::Images;
@@ -19,6 +20,7 @@ use missed_reads::Misses;
 use native_stacks::NativeStacks;
 use py_fronts::SalvagedInterpreter;
 use py_records::Records;
+use py_waits::InterpreterWaits;
 use salvage_words::Sections;
 use std::alloc::{AllocError, Global};
 use task_texts::InterpreterTasks;
@@ -33,6 +35,8 @@ pub struct MemoryTold {
     pub tasks: Option<Vec<InterpreterTasks>>,
     /// The exceptions of the threads, by interpreters.
     pub exceptions: Option<Vec<InterpreterExceptions>>,
+    /// What the threads wait for, by interpreters.
+    pub waits: Option<Vec<InterpreterWaits>>,
     /// The native stacks of the threads of the process.
     pub native: Option<NativeStacks>,
     /// The values of the locals of the frames that are shown.
@@ -78,6 +82,7 @@ pub fn tell_memory(
         misses,
         interpreters,
     )?;
+    let waits = waits_section(alloc, asked.waits, process, records, misses, interpreters)?;
     let native = native_section(
         alloc,
         asked.native,
@@ -92,6 +97,7 @@ pub fn tell_memory(
         names,
         tasks,
         exceptions,
+        waits,
         native,
         values,
     })

@@ -2,6 +2,7 @@
 ghost use Rattle.std.specs.Prelude.{◌≡◌, IfOk};
 ghost use Rattle.serde_json.specs.View.{view};
 ghost use Rattle.memory_sections.specs.Values.{exceptions_tree_if, names_tree_if, native_tree_if, tasks_tree_if};
+ghost use Rattle.memory_sections.specs.Values.{waits_tree_if};
 
 use crate::told::MemoryTold;
 use serde_json::Value;
@@ -33,6 +34,16 @@ pub fn exceptions_value(alloc: Global, told: &MemoryTold) -> Result<Value, Alloc
 {
     match &told.exceptions {
         Some(exceptions) => exception_texts::exceptions_value(alloc, exceptions),
+        None => Ok(Value::Null),
+    }
+}
+
+/// What the threads wait for, by interpreters (`py_waits::waits_value`), or null. The one error is want of memory.
+pub fn waits_value(alloc: Global, told: &MemoryTold) -> Result<Value, AllocError>
+    ensures { IfOk result (λ value. view value ≡ waits_tree_if told.now.waits) }
+{
+    match &told.waits {
+        Some(waits) => py_waits::waits_value(alloc, waits),
         None => Ok(Value::Null),
     }
 }

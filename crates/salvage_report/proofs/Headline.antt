@@ -17,7 +17,7 @@ use Rattle.salvage_words.specs.Salvage.{Salvage, Wanted}
 use Rattle.salvage_words.specs.Salvage.Wanted.{salvage}
 use Rattle.salvage_report.specs.declared.cause.Cause.{Cause}
 use Rattle.salvage_report.specs.Headline.{AreTables, HasSalvaged, SaysLayout, SaysNames, SaysRegisters}
-use Rattle.salvage_report.specs.Headline.{SaysExceptions, SaysNative, SaysSignal, SaysTasks, SaysValues}
+use Rattle.salvage_report.specs.Headline.{SaysExceptions, SaysNative, SaysSignal, SaysTasks, SaysValues, SaysWaits}
 use Rattle.memory_sections.specs.Told.{ToldIf}
 use Rattle.py_fronts.specs.declared.search.Looked.{Looked}
 use Rattle.salvage_report.specs.Outcome.{IsCoreOutcome, IsOutcomeBy, IsSalvagedBy, Outcome, shown_or_none}
@@ -178,6 +178,12 @@ pub says_exceptions : (s : Salvage) (told : Told) (old new : SinkSeen) → HasSa
 says_exceptions s told old new h asked =
     let one = told_one s.sections.exceptions _ h.left.memory.exceptions h.is_left.memory.exceptions asked in
     record { has = h; exceptions = one.0; is = one.1; are = one.2 }
+
+pub says_waits : (s : Salvage) (told : Told) (old new : SinkSeen) → HasSalvaged s told old new
+    → s.sections.waits ≡ true → SaysWaits s told old new
+says_waits s told old new h asked =
+    let one = told_one s.sections.waits _ h.left.memory.waits h.is_left.memory.waits asked in
+    record { has = h; waits = one.0; is = one.1; are = one.2 }
 
 pub says_native : (s : Salvage) (told : Told) (old new : SinkSeen) → HasSalvaged s told old new
     → s.sections.native ≡ true → SaysNative s told old new

@@ -4,6 +4,7 @@ use Rattle.std.specs.Prelude.{codes}
 use Rattle.crash_signal.specs.Trees.{signal_tree as info_tree}
 use Rattle.memory_sections.specs.Told.{names_given}
 use Rattle.memory_sections.specs.Values.{exceptions_tree_if, names_tree_if, native_tree_if, tasks_tree_if}
+use Rattle.memory_sections.specs.Values.{waits_tree_if}
 use Rattle.missed_reads.specs.Told.{missed_tree}
 use Rattle.py_selftest.specs.Trees.{check_tree}
 use Rattle.salvage_json.specs.Salvaged.{ended_tree, interpreters_tree, process_tree, signal_tree}
@@ -23,13 +24,13 @@ thirteen a b c d e f g h i j k l m rest =
     member (codes "process") h (member (codes "registers") i (member (codes "search_ended") j (
     member (codes "signal") k (member (codes "signal_info") l (member (codes "tasks") m rest))))))))))))
 
-placed : (count : Option ℕ) (a b c d e f g h i j k l m v n : Data)
-    → put (codes "version_by_names") n (put (codes "version") v
-    (put_left_out count (thirteen a b c d e f g h i j k l m no_members)))
+placed : (count : Option ℕ) (a b c d e f g h i j k l m v n w : Data)
+    → put (codes "waits") w (put (codes "version_by_names") n (put (codes "version") v
+    (put_left_out count (thirteen a b c d e f g h i j k l m no_members))))
     ≡ thirteen a b c d e f g h i j k l m (with_left_out count (member (codes "version") v
-    (member (codes "version_by_names") n no_members)))
-placed None a b c d e f g h i j k l m v n = refl
-placed (Some x) a b c d e f g h i j k l m v n = refl
+    (member (codes "version_by_names") n (member (codes "waits") w no_members))))
+placed None a b c d e f g h i j k l m v n w = refl
+placed (Some x) a b c d e f g h i j k l m v n w = refl
 
 pub last_placed : (limit : ℕ) (left : Left)
     → ◌≡◌ {A = Data} (object (with_last left (most_members limit left no_members))) (left_tree limit left)
@@ -41,4 +42,5 @@ last_placed limit left = λ i. object (placed (values_left_out left.memory.value
     (boolean left.salvaged.more) (names_tree_if left.memory.names) (native_tree_if limit left.memory.native)
     (process_tree left.process) (section_tree threads_tree (registers_shown left.told.registers))
     (ended_tree left.salvaged.looked) (signal_tree left.signal) (section_tree info_tree left.told.signal)
-    (tasks_tree_if left.memory.tasks) (string (told_version left.named left.version)) (boolean left.named) i)
+    (tasks_tree_if left.memory.tasks) (string (told_version left.named left.version)) (boolean left.named)
+    (waits_tree_if left.memory.waits) i)

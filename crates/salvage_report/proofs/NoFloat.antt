@@ -1,6 +1,7 @@
 -- The tree of all that is told has no float.
 use Rattle.std.proofs.Common.{◌≡◌, ℕ, ℤ, Bool, false, List, Option, Some, None, Result, Ok, Err, refl}
-use Rattle.std.specs.Prelude.{◌||◌, codes}
+use Rattle.std.specs.Prelude.{◌||◌, Vec, codes}
+use Rattle.std.specs.Global.{Global}
 use Rattle.serde_json.specs.Data.{boolean, member, no_members, string}
 use Rattle.serde_json.specs.Written.{has_float, members_have_float}
 use Rattle.repr_json.specs.Shown.{HasNoFloat}
@@ -17,8 +18,10 @@ use Rattle.thread_registers.specs.Threads.{ThreadShown}
 use Rattle.thread_registers.specs.Trees.{threads_tree}
 use Rattle.thread_registers.proofs.Plain.{no_float as threads}
 use Rattle.memory_sections.specs.Told.{names_given}
+use Rattle.memory_sections.specs.Values.{waits_tree_if}
+use Rattle.py_waits.specs.declared.told.InterpreterWaits.{InterpreterWaits}
 use Rattle.salvage_json.proofs.Trees.{ended, integer, interpreters, process, signal}
-use Rattle.memory_sections.proofs.Plain.{exceptions, names, native, tasks}
+use Rattle.memory_sections.proofs.Plain.{exceptions, names, native, tasks, waits}
 use Rattle.missed_reads.specs.Told.{RefusedTold, missed_tree}
 use Rattle.missed_reads.proofs.NoFloat.{no_float as missed}
 use Rattle.py_selftest.specs.Checking.{CheckShown}
@@ -91,11 +94,11 @@ pub missing_no_float : (told : RefusedTold) → has_float (missing_tree told) �
 missing_no_float told = λ i. missed told i || false
 
 -- the key that says how many values are left out
-counted : (count : Option ℕ) (version : List ℕ) (named : Bool)
+counted : (count : Option ℕ) (version : List ℕ) (named : Bool) (w : Option (Vec InterpreterWaits Global))
     → members_have_float (with_left_out count (member (codes "version") (string version)
-    (member (codes "version_by_names") (boolean named) no_members))) ≡ false
-counted None version named = refl
-counted (Some n) version named = refl
+    (member (codes "version_by_names") (boolean named) (member (codes "waits") (waits_tree_if w) no_members)))) ≡ false
+counted None version named w = λ i. false || (false || (waits w i || false))
+counted (Some n) version named w = λ i. false || (false || (false || (waits w i || false)))
 
 pub no_float : (limit : ℕ) (left : Left) → HasNoFloat left.values → has_float (left_tree limit left) ≡ false
 no_float limit left plain = λ i. exceptions left.memory.exceptions i
@@ -105,4 +108,5 @@ no_float limit left plain = λ i. exceptions left.memory.exceptions i
     || (false || (names left.memory.names i || (native limit left.memory.native i || (process left.process
     i || (threads_section (registers_shown left.told.registers) i || (ended left.salvaged.looked i
     || (signal left.signal i || (info_section left.told.signal i || (tasks left.memory.tasks i
-    || counted (values_left_out left.memory.values) (told_version left.named left.version) left.named i))))))))))))
+    || counted (values_left_out left.memory.values) (told_version left.named left.version) left.named
+    left.memory.waits i))))))))))))

@@ -23,10 +23,12 @@ use Rattle.py_process.specs.Reports.{memory_in}
 use Rattle.thread_names.specs.declared.names.InterpreterNames.{InterpreterNames}
 use Rattle.memory_sections.specs.Each.{EachTold}
 use Rattle.memory_sections.specs.Exceptions.{AreExceptions}
+use Rattle.memory_sections.specs.Waits.{AreWaits}
 use Rattle.memory_sections.specs.Told.{AreNamesOf, AreNative, AreTasksOf, rule_of, slot_share}
 use Rattle.native_stacks.specs.declared.stacks.NativeStacks.{NativeStacks}
 use Rattle.py_records.specs.Versions.{records_of}
 use Rattle.exception_texts.specs.declared.told.InterpreterExceptions.{InterpreterExceptions}
+use Rattle.py_waits.specs.declared.told.InterpreterWaits.{InterpreterWaits}
 use Rattle.task_texts.specs.declared.told.InterpreterTasks.{InterpreterTasks}
 use Rattle.salvage_report.specs.Outcome.{IsLeft, tables_for}
 use Rattle.named_images.specs.Named.{images_read}
@@ -135,6 +137,15 @@ pub record SaysExceptions (s : Salvage) (told : Told) (old new : SinkSeen) : Typ
   pub is : has.left.memory.exceptions ≡ Some exceptions
   pub are : AreExceptions has.opened.layout (records_of has.tables has.opened.version)
       (memory_in has.opened.dumped) has.left.salvaged.interpreters.items exceptions
+
+-- What the threads that are shown wait for: each by where its status record says that it stands, by the places that the
+-- records say which the tables have for the version (`wait_at` of py_waits).
+pub record SaysWaits (s : Salvage) (told : Told) (old new : SinkSeen) : Type 0 where
+  pub has : HasSalvaged s told old new
+  pub waits : Vec InterpreterWaits Global
+  pub is : has.left.memory.waits ≡ Some waits
+  pub are : AreWaits has.core has.opened.known has.opened.layout (records_of has.tables has.opened.version)
+      (memory_in has.opened.dumped) has.left.salvaged.interpreters.items waits
 
 -- the native stacks of the threads that the core's notes tell, without guesses where that is asked for
 pub record SaysNative (s : Salvage) (told : Told) (old new : SinkSeen) : Type 0 where

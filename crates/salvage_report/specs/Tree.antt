@@ -12,6 +12,7 @@ use Rattle.thread_registers.specs.Trees.{threads_tree}
 use Rattle.salvage_json.specs.Salvaged.{ended_tree, interpreters_tree, process_tree, signal_tree}
 use Rattle.memory_sections.specs.Told.{names_given}
 use Rattle.memory_sections.specs.Values.{exceptions_tree_if, names_tree_if, native_tree_if, tasks_tree_if}
+use Rattle.memory_sections.specs.Values.{waits_tree_if}
 use Rattle.missed_reads.specs.Told.{RefusedTold, missed_tree}
 use Rattle.py_selftest.specs.Trees.{check_tree}
 use Rattle.salvage_report.specs.LayoutChecked.{check_of}
@@ -36,7 +37,8 @@ first_members limit left rest =
     member (codes "names") (names_tree_if left.memory.names) (
     member (codes "native") (native_tree_if limit left.memory.native) rest))))))
 
--- these and those behind them, before the last ones: how many values are left out, and the version
+-- these and those behind them, before the last ones: how many values are left out, the version,
+-- and what threads wait for
 abbrev pub most_members : (limit : ℕ) → Left → Members → Members
 most_members limit left rest = first_members limit left (
     member (codes "process") (process_tree left.process) (
@@ -51,17 +53,19 @@ abbrev pub told_version : (named : Bool) → Version → List ℕ
 told_version false v = version_text v
 told_version true v = decimal v.major ++ (codes "." ++ decimal v.minor)
 
--- how many values are left out, and the version, put into members that are there
+-- how many values are left out, the version, and what threads wait for, put into members that are there
 abbrev pub with_last : Left → Members → Members
-with_last left members = put (codes "version_by_names") (boolean left.named) (
+with_last left members = put (codes "waits") (waits_tree_if left.memory.waits) (
+    put (codes "version_by_names") (boolean left.named) (
     put (codes "version") (string (told_version left.named left.version)) (
-    put_left_out (values_left_out left.memory.values) members))
+    put_left_out (values_left_out left.memory.values) members)))
 
 -- the keys stand in the order of their bytes
 abbrev pub left_tree : (limit : ℕ) → Left → Data
 left_tree limit left = object (most_members limit left (with_left_out (values_left_out left.memory.values) (
     member (codes "version") (string (told_version left.named left.version)) (
-    member (codes "version_by_names") (boolean left.named) no_members))))
+    member (codes "version_by_names") (boolean left.named) (
+    member (codes "waits") (waits_tree_if left.memory.waits) no_members)))))
 
 -- the text of a tree: each item and member on a line of its own, two spaces deeper for each bracket
 abbrev pub pretty_text : Data → List ℕ

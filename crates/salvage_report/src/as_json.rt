@@ -15,7 +15,9 @@ ghost use Rattle.salvage_report.specs.Sections.{missing_shown, registers_shown};
 
 use crate::left::Left;
 use crash_signal::{CrashSignal, Untold};
-use memory_sections::{exceptions_value, names_told, names_value, native_value, tasks_value};
+use memory_sections::{
+    exceptions_value, names_told, names_value, native_value, tasks_value, waits_value,
+};
 use missed_reads::{MissedBlocks, Misses, missed_blocks, missed_value};
 use py_layout::Version;
 use py_selftest::{LayoutCheck, check_value};
@@ -128,14 +130,16 @@ fn most_members(alloc: Global, limit: usize, left: &Left) -> Result<Map<String, 
     Ok(map)
 }
 
-/// How many values are left out, and the version.
+/// How many values are left out, the version, and what threads wait for.
 fn put_last(alloc: Global, map: &mut Map<String, Value>, left: &Left) -> Result<(), AllocError>
     ensures { OnOk result (members_view map.new.entries ≡ with_last left.now (members_view map.old.entries)) }
 {
     let version = version_of(alloc, left.named, &left.version)?;
+    let waits = waits_value(alloc, &left.memory)?;
     put_left_out(alloc, map, &left.memory.values)?;
     put(map, alloc, "version", Value::String(version))?;
-    put(map, alloc, "version_by_names", Value::Bool(left.named))
+    put(map, alloc, "version_by_names", Value::Bool(left.named))?;
+    put(map, alloc, "waits", waits)
 }
 
 fn left_value(alloc: Global, limit: usize, left: &Left) -> Result<Value, AllocError>

@@ -7,8 +7,8 @@ use std::alloc::{AllocError, Global};
 /// The help.
 const HELP: &str = "\
 pysalvage CORE --layouts FILE [--records FILE] [-n N] [-l].. [-j] [--signal] [--registers]
-          [--missing] [--check-layout] [--names] [--tasks] [--exceptions] [--native [--strict]]
-          [PATH=FILE]..
+          [--missing] [--check-layout] [--names] [--tasks] [--exceptions] [--waits]
+          [--native [--strict]] [PATH=FILE]..
 
 What is left of the Python stacks in the core of a broken process, or in one that was cut: each chain of threads and
 frames as far as it goes. Where no mark stands a chain is whole.
@@ -26,6 +26,7 @@ CORE            the core's file
 --names         the names of the threads, of each interpreter
 --tasks         the tasks of asyncio, of each interpreter: where they stand and what they wait for
 --exceptions    the exceptions that each thread raises and handles, with their tracebacks
+--waits         what each thread waits for: a lock and its owner, the interpreter's lock, or a queue
 --native        the native stack of each thread
 --strict        native stacks without guesses
 PATH=FILE       FILE is read in place of the file that the process had mapped from PATH

@@ -30,6 +30,8 @@ pub struct Sections {
     pub tasks: bool,
     /// `--exceptions`: what each thread raises and handles.
     pub exceptions: bool,
+    /// `--waits`: what each thread waits for.
+    pub waits: bool,
     /// `--native`: the native stack of each thread.
     pub native: bool,
     /// `--strict`: native stacks without guesses.
@@ -108,6 +110,7 @@ fn sections_by(matches: &ArgMatches<'_>) -> Sections
         names: is_set(matches, "names"),
         tasks: is_set(matches, "tasks"),
         exceptions: is_set(matches, "exceptions"),
+        waits: is_set(matches, "waits"),
         native: is_set(matches, "native"),
         strict: is_set(matches, "strict"),
     }
@@ -145,7 +148,7 @@ fn salvage_words(alloc: Global, words: &[String]) -> Result<SalvageWords, ArgsEr
 }
 
 /// What the words ask for: `CORE --layouts FILE [--records FILE] [-n N] [-l].. [-j] [--signal] [--registers]
-/// [--missing] [--check-layout] [--names] [--tasks] [--exceptions] [--native] [--strict] [PATH=FILE]..` behind the program's
+/// [--missing] [--check-layout] [--names] [--tasks] [--exceptions] [--waits] [--native] [--strict] [PATH=FILE]..` behind the program's
 /// name, of which nothing is read; or `--help` or `--version` alone.
 ///
 /// Clap takes the words, in any order that it knows: the core's file; `--layouts` with a value, once; `--records` with

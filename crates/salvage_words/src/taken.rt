@@ -55,6 +55,7 @@ fn salvage_command<'a>(alloc: Global) -> Result<Command<'a>, AllocError>
         .arg(flag(alloc, "names", None))?
         .arg(flag(alloc, "tasks", None))?
         .arg(flag(alloc, "exceptions", None))?
+        .arg(flag(alloc, "waits", None))?
         .arg(flag(alloc, "native", None))?
         .arg(flag(alloc, "strict", None))?
         .arg(images_arg(alloc))

@@ -49,7 +49,7 @@ from small_core import CALLER, CODE, FRAME, HEAP, heap
 FIRST = 1_000_000
 """How many bytes are given at first."""
 
-WORDS = ("-l", "--signal", "--registers", "--check-layout", "--names", "--exceptions")
+WORDS = ("-l", "--signal", "--registers", "--check-layout", "--names", "--exceptions", "--waits")
 """What is asked for."""
 
 Tree = Dict[str, Any]

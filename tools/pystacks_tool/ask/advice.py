@@ -1,5 +1,7 @@
 """What to do next where a program refuses a core, by the front of its line. docs/MESSAGES.md says more of each."""
 
+from typing import Callable
+
 from pystacks_tool.faults import Called
 
 NEXT = {
@@ -25,18 +27,24 @@ CUT = "the end of the core is missing, where Python's records may have stood: co
 """What to do where a core was cut."""
 
 
-def next_by_core(line: str, is_cut: bool, other: str) -> str:
+NOT_RUNNING = "Python wasn't running: its own record names no interpreter, as before its start and after `Py_Finalize`; `bt` of gdb says where it was"
+"""What to do where no interpreter was there."""
+
+
+def next_by_core(line: str, is_cut: bool, other: str, is_running: Callable[[], bool]) -> str:
     """What to do behind the line of a program, by what is known of the core; nothing where that tells nothing."""
     if not line.startswith(("no interpreter found", "version unreadable", "no Python version found", "image not given")):
         return ""
     if other:
         return f"the process is {other}, by the names of its files: cores of CPython are read"
+    if line.startswith("no interpreter found") and not is_running():
+        return NOT_RUNNING
     return CUT if is_cut else ""
 
 
-def next_of(said: str, is_cut: bool = False, other: str = "") -> str:
+def next_of(said: str, is_cut: bool = False, other: str = "", is_running: Callable[[], bool] = lambda: True) -> str:
     """What to do behind the line of a program; nothing where the line says it, or the tool's own line before it."""
     name, _, line = said.partition(": ")
     if name not in ("pystacks", "pysalvage", Called.name):
         return ""
-    return next_by_core(line, is_cut, other) or next((then for front, then in NEXT.items() if line.startswith(front)), "")
+    return next_by_core(line, is_cut, other, is_running) or next((then for front, then in NEXT.items() if line.startswith(front)), "")

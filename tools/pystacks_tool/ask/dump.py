@@ -89,4 +89,5 @@ def tree_of(report: Report, threads: List[Tree], most: Optional[int] = None) -> 
         "interpreters": [interpreter], "layout_check": None, "missing": None, "more": None, "names": None, "native": None,
         "process": process, "registers": None, "search_ended": None, "signal": report.signal,
         "signal_info": None, "tasks": None, "exceptions": None, "version": report.version or None, "version_by_names": None,
+        "waits": None,
     }

@@ -7,6 +7,7 @@ from pystacks_tool.ask.exceptions import FLAG as EXCEPTIONS
 from pystacks_tool.ask.layout import FLAG
 from pystacks_tool.ask.native import FLAG as NATIVE
 from pystacks_tool.ask.tasks import FLAG as TASKS
+from pystacks_tool.ask.waits import FLAG as WAITS
 from pystacks_tool.ask.run import Answer, answer_of, knows
 from pystacks_tool.cores.opened import OpenedCore, check_text
 from pystacks_tool.faults import NO_PROGRAM, Fault, shown
@@ -80,6 +81,7 @@ def salvage_command(options: Options, program: str, core: OpenedCore, with_nativ
     sections += [it for it in (REGISTERS, FLAG, NAMES) if knows(program, it)]
     sections += [TASKS] * (options.tasks and knows(program, TASKS) and not tells_tasks_as_text(options, core))
     sections += [EXCEPTIONS] * (options.exceptions and knows(program, EXCEPTIONS))
+    sections += [WAITS] * (options.waits and knows(program, WAITS))
     sections += native_words(options) * with_native
     records = [f"--records={core.records}"] if core.records else []
     ends = [f"--frames={options.frames}"] if options.frames is not None else []

@@ -20,6 +20,7 @@ from pystacks_tool.ask.salvage import NamesAndValues, names_and_values, report_b
 from pystacks_tool.ask.task_frames import with_running_frames
 from pystacks_tool.ask.tasks import FLAG as TASKS
 from pystacks_tool.ask.values import hide_in_frames, tells_values
+from pystacks_tool.ask.waits import KEY as WAITS, with_all_waits
 from pystacks_tool.cores.images import OTHER_FILE
 from pystacks_tool.cores.known import Known
 from pystacks_tool.cores.opened import OpenedCore
@@ -85,7 +86,7 @@ def ask_salvage(options: Options, core: OpenedCore, program: str) -> Outcome:
         return Outcome(refusal(told))
     added = partial(ask_for_names_and_values, options, core, program)
     tree, report = report_by_salvage(decoded(answer.out), core.name, added, options.hidden)
-    report = with_running_frames(with_tasks(options, core, program, with_system_ids(report)))
+    report = with_running_frames(with_tasks(options, core, program, waiting(with_system_ids(report), tree)))
     if not options.registers:
         # (they were asked for the ids of threads alone)
         tree["registers"], report = None, report._replace(registers=())
@@ -93,6 +94,14 @@ def ask_salvage(options: Options, core: OpenedCore, program: str) -> Outcome:
         # (that is between the program and the tool)
         tree["missing"] = None
     return Outcome(answer, arranged(with_native(options, core, program, report, tree, has_native)), tree)
+
+
+def waiting(report: Report, tree: Tree) -> Report:
+    """The report with what threads wait for, where the program told it."""
+    try:
+        return with_all_waits(report, tree.get(WAITS))
+    except (ValueError, KeyError, TypeError) as error:
+        raise Unexpected(f"its JSON: {error!r}") from None
 
 
 def say_missing(files: List[str]) -> None:

@@ -76,11 +76,20 @@ def name_of(thread: Thread) -> str:
     return "" if thread.name is None else text(f'"{as_name(thread.name)}"')
 
 
-def stack_section(stack: Stack, anchor: str, style: Style) -> str:
+def wait_part(thread: Thread, anchors: Mapping[int, str]) -> str:
+    """What a thread waits for, with a link to the stack of the thread that holds it."""
+    if thread.wait is None:
+        return ""
+    what = text(f" (waits for {thread.waits})")
+    anchor = None if thread.wait.owner is None else anchors.get(thread.wait.owner)
+    return what if anchor is None else f"{what} <a href=\"#{anchor}\">its stack</a>"
+
+
+def stack_section(stack: Stack, anchor: str, style: Style, anchors: Mapping[int, str]) -> str:
     """The threads of one stack, and its frames."""
     one = stack.one
     if len(stack.threads) == 1:
-        title = f"Thread {text(one.label)} {name_of(one)} {marks_of(one)}".rstrip()
+        title = f"Thread {text(one.label)} {name_of(one)} {marks_of(one)}".rstrip() + wait_part(one, anchors)
         rest = ""
     else:
         title = text(titles_of(stack))
@@ -105,8 +114,10 @@ def stacks_part(report: Report, front: str, style: Style) -> str:
     parts, count = [], 0
     for it in report.interpreters:
         parts.append(interpreter_part(it, len(report.interpreters) > 1))
-        for stack in stacks_of(it.threads, not style.shows_all):
-            parts.append(stack_section(stack, f"{front}{count}", style))
+        stacks = stacks_of(it.threads, not style.shows_all)
+        anchors = {thread.number: f"{front}{count + at}" for at, stack in enumerate(stacks) for thread in stack.threads}
+        for stack in stacks:
+            parts.append(stack_section(stack, f"{front}{count}", style, anchors))
             count += 1
     if report.has_more:
         parts.append("<p class=\"end\">... more than 16 interpreters</p>")
@@ -177,6 +188,8 @@ def head_part(report: Report) -> str:
     if report.signal is not None:
         how = f"; {text(report.signal_told)}" if report.signal_told else ""
         rows.append(("Signal", f"<b class=\"bad\">{signal_of(report)}</b>{how}"))
+    if report.deadlocks:
+        rows.append(("Deadlock", "<br>".join(f"<b class=\"bad\">{text(it)}</b>" for it in report.deadlocks)))
     raised = list(summary_lines(report))
     if raised:
         rows.append(("Exception", "<br>".join(f"<b class=\"bad\">{text(it)}</b>" for it in raised)))

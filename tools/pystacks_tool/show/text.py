@@ -85,17 +85,31 @@ def name_of(thread: Thread) -> str:
     return thread.label if thread.name is None else as_name(thread.name)
 
 
+def each(threads: Sequence[Thread]) -> str:
+    """What stands before a word that is said of several threads."""
+    return "each " if len(threads) > 1 else ""
+
+
+def wait_of(threads: Sequence[Thread], style: Style = Style()) -> str:
+    """What threads wait for, behind a blank: of several that wait for different things of a kind, the kind."""
+    one = threads[0]
+    if one.wait is None:
+        return ""
+    what = one.waits if all(it.waits == one.waits for it in threads) else f"a {one.wait.kind}"
+    return f" {style.paint(f'({each(threads)}waits for {what})', YELLOW)}"
+
+
 def title_of(thread: Thread, style: Style = Style()) -> str:
     """A thread's line."""
     name = "" if thread.name is None else f': "{as_name(thread.name)}"'
-    return f"Thread {thread.label}{marks_of(thread, style)}{name}"
+    return f"Thread {thread.label}{marks_of(thread, style)}{name}{wait_of([thread], style)}"
 
 
 def titles_of(stack: Stack) -> str:
     """The line of several threads of one stack."""
     names, count = [name_of(it) for it in stack.threads[:NAMED]], len(stack.threads)
     more = f" and {count - NAMED} more" if count > NAMED else ""
-    return f"{count} threads: {', '.join(names)}{more}"
+    return f"{count} threads: {', '.join(names)}{more}{wait_of(stack.threads)}"
 
 
 def newest_of(thread: Thread, style: Style = Style(), before: int = 4) -> str:
@@ -232,7 +246,7 @@ def told_lines(report: Report, style: Style) -> Iterator[str]:
         yield style.paint(signal_line(report.signal), BOLD) + f": {in_line(report.core)}"
     if report.signal_told:
         yield style.paint(in_line(report.signal_told), RED)
-    yield from (style.paint(it, RED) for it in summary_lines(report))
+    yield from (style.paint(it, RED) for it in (*report.deadlocks, *summary_lines(report)))
     if report.process is not None:
         yield f"Process {report.process[0]}: {in_line(whole_or_cut(report.process[1]))}"
     if report.version:

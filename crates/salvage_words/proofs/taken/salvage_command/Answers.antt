@@ -21,8 +21,9 @@ returns c =
     let names = c.in_ok-arg-11.ensures.shape c.flag-6.ensures.local ∙ ap₂ with_rule checked c.flag-6.ensures.rule in
     let tasks = c.in_ok-arg-12.ensures.shape c.flag-7.ensures.local ∙ ap₂ with_rule names c.flag-7.ensures.rule in
     let exceptions = c.in_ok-arg-13.ensures.shape c.flag-8.ensures.local ∙ ap₂ with_rule tasks c.flag-8.ensures.rule in
-    let native = c.in_ok-arg-14.ensures.shape c.flag-9.ensures.local ∙ ap₂ with_rule exceptions c.flag-9.ensures.rule in
-    let strict = c.in_ok-arg-15.ensures.shape c.flag-10.ensures.local ∙ ap₂ with_rule native c.flag-10.ensures.rule in
-    IfOk-weaker c.arg-16.result _ _
+    let waits = c.in_ok-arg-14.ensures.shape c.flag-9.ensures.local ∙ ap₂ with_rule exceptions c.flag-9.ensures.rule in
+    let native = c.in_ok-arg-15.ensures.shape c.flag-10.ensures.local ∙ ap₂ with_rule waits c.flag-10.ensures.rule in
+    let strict = c.in_ok-arg-16.ensures.shape c.flag-11.ensures.local ∙ ap₂ with_rule native c.flag-11.ensures.rule in
+    IfOk-weaker c.arg-17.result _ _
     (λ command added. added.shape c.images_arg.ensures.local ∙ ap₂ with_rule strict c.images_arg.ensures.rule)
-    c.arg-16.ensures
+    c.arg-17.ensures

@@ -1,0 +1,7 @@
+pub mod Plain
+mod Known
+mod Firsts
+mod KnownTypes
+mod Parts
+mod Held
+mod Waiting

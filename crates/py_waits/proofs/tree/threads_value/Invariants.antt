@@ -1,0 +1,7 @@
+use Rattle.std.proofs.Common.{◌≡◌, map, take}
+use Rattle.serde_json.specs.View.{view}
+use Rattle.py_waits.specs.Trees.{thread_tree}
+use Rattle.py_waits.proofs.tree.threads_value.Given as goal
+
+abbrev pub invariant-loop-thread : goal.invariant-loop-thread
+invariant-loop-thread l = map view l.values.items ≡ map (λ x. thread_tree x) (take l.thread-index l.threads)

@@ -1,0 +1,9 @@
+pub mod Words
+pub mod Places
+pub mod Objects
+pub mod Frames
+pub mod Registers
+pub mod Waits
+pub mod Types
+pub mod Text
+pub mod Trees
