@@ -9,9 +9,9 @@ use Rattle.py_stacks.specs.declared.trace.Frame.{Frame}
 use Rattle.py_stacks.specs.Frames.{Call, call_of}
 use Rattle.native_merge.specs.declared.native_frame.NativeFrame.{NativeFrame}
 use Rattle.native_merge.specs.declared.symbol_fault.SymbolFault.{SymbolFault}
-use Rattle.native_merge.specs.declared.function_kind.FunctionKind.{FunctionKind}
-use Rattle.native_merge.specs.declared.function_kind.FunctionKind.TheVariants.{Step as IsStep, Native as IsNative}
-use Rattle.native_merge.specs.declared.function_kind.FunctionKind.TheVariants.{LeftOut as IsLeftOut}
+use Rattle.native_pairs.specs.declared.kind.FunctionKind.{FunctionKind}
+use Rattle.native_pairs.specs.declared.kind.FunctionKind.TheVariants.{Step as IsStep, Native as IsNative}
+use Rattle.native_pairs.specs.declared.kind.FunctionKind.TheVariants.{LeftOut as IsLeftOut}
 use Rattle.native_merge.specs.FunctionKinds.{function_kind}
 use Rattle.native_merge.specs.SymbolCaches.{Answer}
 use Rattle.native_merge.specs.NativesShown.{NativeItem, ShowsFrame, ShowsNative, answer_items, fault_call, is_dropped}

@@ -10,7 +10,6 @@ pub mod MapsKept
 pub mod MergeEnds
 pub mod MergeLaws
 pub mod MergeSteps
-pub mod NamePieces
 pub mod Numbers
 pub mod Parts
 pub mod SourceNames

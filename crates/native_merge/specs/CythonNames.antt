@@ -1,19 +1,13 @@
 -- The names of functions that Cython writes, and what is left of them. Which fronts count, and how the numbers
 -- behind them are passed, is py-spy's rule; that a number past a u64 ends it, and a point inside a character,
 -- is this project's own.
-use Rattle.std.specs.Prelude.{◌≡◌, ◌≢◌, ℕ, ◌+◌, ◌^◌, ◌<◌, ◌==◌, ◌||◌, Bool, if◌then◌else◌, List, [], ◌∷◌, length, take}
+use Rattle.std.specs.Prelude.{◌≡◌, ◌≢◌, ℕ, ◌+◌, ◌^◌, ◌<◌, ◌==◌, Bool, if◌then◌else◌, List, [], ◌∷◌, length, take}
 use Rattle.std.specs.Prelude.{drop, bytes_eq, codes, Option, Some, None}
 use Rattle.std.specs.Option.{option_or}
 use Rattle.std.specs.Str.{IsCharBoundary}
 use Rattle.std.specs.Str.Parse.{digits_value}
 use Rattle.native_merge.specs.Digits.{leading_digits}
 use Rattle.native_merge.specs.declared.digits.Number.{Number}
-
--- helpers of Cython's that only hand a call on
-abbrev pub is_call_glue : List ℕ → Bool
-is_call_glue name = bytes_eq name (codes "__Pyx_PyFunction_FastCallDict")
-    || bytes_eq name (codes "__Pyx_PyObject_CallOneArg") || bytes_eq name (codes "__Pyx_PyObject_Call")
-    || bytes_eq name (codes "__pyx_FusedFunction_call")
 
 -- ---- the front
 

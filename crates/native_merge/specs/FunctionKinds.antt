@@ -1,76 +1,9 @@
--- What a frame of Python's own native code is, by the pieces of its function's name. The names are CPython's, and
--- which count is py-spy's rule.
-use Rattle.std.specs.Prelude.{ℕ, ◌==◌, ◌||◌, not, Bool, if◌then◌else◌, List, [], ◌∷◌, codes, bytes_eq, take, drop}
-use Rattle.std.specs.Prelude.{Option, Some, None, encode_utf8_all}
-use Rattle.std.specs.List.{prefix_len}
-use Rattle.native_merge.specs.declared.function_kind.FunctionKind.{FunctionKind}
-use Rattle.native_merge.specs.declared.function_kind.FunctionKind.TheVariants.{Step, Native, LeftOut}
+-- What a frame of Python's own native code is, by its function's name as a text.
+use Rattle.std.specs.Prelude.{ℕ, List, Option, Some, None, encode_utf8_all}
+use Rattle.native_pairs.specs.declared.kind.FunctionKind.{FunctionKind}
+use Rattle.native_pairs.specs.Kinds.{function_kind as kind_of_name}
 
--- what stands between the pieces of a name: `_` and `.`
-abbrev pub is_gap : ℕ → Bool
-is_gap c = c == 95 || c == 46
-
-abbrev pub is_inner : ℕ → Bool
-is_inner c = not (is_gap c)
-
--- a character in front of the first of some pieces
-abbrev pub onto_piece : ℕ → List (List ℕ) → List (List ℕ)
-onto_piece c [] = (c ∷ []) ∷ []
-onto_piece c (p ∷ ps) = (c ∷ p) ∷ ps
-
--- a character in front of a text that has these pieces
-abbrev pub grown : ℕ → List ℕ → List (List ℕ) → List (List ℕ)
-grown c [] ps = (c ∷ []) ∷ []
-grown c (d ∷ ds) ps = if is_gap d then (c ∷ []) ∷ ps else onto_piece c ps
-
--- the pieces of a name: the longest ones without gaps that aren't empty, in order
-unfoldable pub pieces : List ℕ → List (List ℕ)
-pieces [] = []
-pieces (c ∷ cs) = if is_gap c then pieces cs else grown c cs (pieces cs)
-
--- the second pieces of a function that runs a Python frame
-abbrev pub is_evaluation : List ℕ → Bool
-is_evaluation piece = bytes_eq piece (codes "EvalFrameDefault") || bytes_eq piece (codes "EvalFrameEx")
-
--- the first pieces of functions that are shown
-abbrev pub is_shown_alone : List ℕ → Bool
-is_shown_alone piece = bytes_eq piece (codes "time") || bytes_eq piece (codes "sys") || bytes_eq piece (codes "gc")
-    || bytes_eq piece (codes "os") || bytes_eq piece (codes "unicode") || bytes_eq piece (codes "thread")
-    || bytes_eq piece (codes "stringio") || bytes_eq piece (codes "sre") || bytes_eq piece (codes "PyGilState")
-    || bytes_eq piece (codes "PyThread") || bytes_eq piece (codes "lock")
-
-abbrev pub kind_by_first : List ℕ → FunctionKind
-kind_by_first piece = if is_shown_alone piece then Native else LeftOut
-
--- what a frame is, by the first and the second piece of its function's name
-abbrev pub kind_by_two : List ℕ → List ℕ → FunctionKind
-kind_by_two first second = if bytes_eq first (codes "PyEval")
-    then (if is_evaluation second then Step else LeftOut) else kind_by_first first
-
--- the first of some pieces; nothing, which is no name, where there is none
-abbrev pub head_of : List (List ℕ) → List ℕ
-head_of [] = []
-head_of (p ∷ ps) = p
-
-abbrev pub tail_of : List (List ℕ) → List (List ℕ)
-tail_of [] = []
-tail_of (p ∷ ps) = ps
-
-abbrev pub kind_by_pieces : List (List ℕ) → FunctionKind
-kind_by_pieces ps = kind_by_two (head_of ps) (head_of (tail_of ps))
-
--- what a frame of a function is; one whose function is not known is left out
+-- by the bytes of its name
 abbrev pub function_kind : Option (List ℕ) → FunctionKind
-function_kind None = LeftOut
-function_kind (Some function) = kind_by_pieces (pieces (encode_utf8_all function))
-
--- ---- the first piece, by what stands in front of it and behind it
-
-abbrev pub behind_gap : List ℕ → List ℕ
-behind_gap text = drop (prefix_len is_gap text) text
-
-abbrev pub first_piece : List ℕ → List ℕ
-first_piece text = take (prefix_len is_inner (behind_gap text)) (behind_gap text)
-
-abbrev pub behind_first : List ℕ → List ℕ
-behind_first text = drop (prefix_len is_inner (behind_gap text)) (behind_gap text)
+function_kind None = kind_of_name None
+function_kind (Some function) = kind_of_name (Some (encode_utf8_all function))

@@ -8,10 +8,11 @@ use Rattle.std.specs.Fmt.{digits}
 use Rattle.std.specs.Str.{chars}
 use Rattle.py_stacks.specs.Frames.{Call}
 use Rattle.native_merge.specs.declared.native_frame.NativeFrame.{NativeFrame}
-use Rattle.native_merge.specs.declared.function_kind.FunctionKind.{FunctionKind}
-use Rattle.native_merge.specs.declared.function_kind.FunctionKind.TheVariants.{Step as IsStep, Native as IsNative}
-use Rattle.native_merge.specs.declared.function_kind.FunctionKind.TheVariants.{LeftOut as IsLeftOut}
-use Rattle.native_merge.specs.CythonNames.{IsDemangled, is_call_glue}
+use Rattle.native_pairs.specs.declared.kind.FunctionKind.{FunctionKind}
+use Rattle.native_pairs.specs.declared.kind.FunctionKind.TheVariants.{Step as IsStep, Native as IsNative}
+use Rattle.native_pairs.specs.declared.kind.FunctionKind.TheVariants.{LeftOut as IsLeftOut}
+use Rattle.native_pairs.specs.Kinds.{is_call_glue}
+use Rattle.native_merge.specs.CythonNames.{IsDemangled}
 use Rattle.native_merge.specs.FunctionKinds.{function_kind}
 use Rattle.native_merge.specs.MergedStacks.{StackItem, MergedFrame}
 use Rattle.native_merge.specs.MergedStacks.StackItem.{Step, Shown}

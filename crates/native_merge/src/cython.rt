@@ -1,7 +1,8 @@
 //! The names of Cython's functions.
 ghost use Rattle.std.specs.Prelude.{◌≡◌, drop, option_map, MatchOption};
 ghost use Rattle.native_merge.specs.CythonNames.{DemanglesOnce, HasTurn, IsDemangled, IsPointIn, IsShortened, IsTurnAt};
-ghost use Rattle.native_merge.specs.CythonNames.{behind, fronts, is_call_glue, left_behind};
+ghost use Rattle.native_merge.specs.CythonNames.{behind, fronts, left_behind};
+ghost use Rattle.native_pairs.specs.Kinds.{is_call_glue};
 
 use crate::digits::{Number, leading_number};
 
@@ -11,10 +12,7 @@ use crate::digits::{Number, leading_number};
 pub fn ignore_frame(name: &str) -> bool
     ensures { result ≡ is_call_glue name.now }
 {
-    name == "__Pyx_PyFunction_FastCallDict"
-        || name == "__Pyx_PyObject_CallOneArg"
-        || name == "__Pyx_PyObject_Call"
-        || name == "__pyx_FusedFunction_call"
+    native_pairs::is_call_glue(name.as_bytes())
 }
 
 /// What is left of a name behind this front.

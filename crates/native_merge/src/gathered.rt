@@ -7,10 +7,11 @@ ghost use Rattle.native_merge.specs.NativesShown.{answer_items, items_met, items
 ghost use Rattle.native_merge.specs.Sources.{Stay};
 ghost use Rattle.native_merge.specs.SymbolCaches.{answer_listed};
 
-use crate::function_kind::{FunctionKind, function_kind};
+use crate::function_kind::function_kind;
 use crate::natives_shown::{fault_frame, is_dropped, shown_frame};
 use crate::stack_steps::take_step;
 use crate::{MergeError, NativeFrame, Sources, SymbolFault};
+use native_pairs::FunctionKind;
 use py_stacks::Frame;
 use std::alloc::Global;
 

@@ -1,6 +1,0 @@
-use Rattle.std.proofs.Common.{◌≡◌, ℕ, ◌<◌, true, get_or}
-use Rattle.native_merge.specs.FunctionKinds.{is_inner}
-use Rattle.native_merge.proofs.function_kind.piece_len.Given as goal
-
-abbrev pub invariant-loop-at : goal.invariant-loop-at
-invariant-loop-at l = (k : ℕ) → k < l.at → is_inner (get_or l.text k 0) ≡ true
