@@ -1,6 +1,6 @@
 -- Both lists in one.
-use Rattle.std.proofs.Common.{◌≡◌, ℕ, zero, suc, ◌+◌, ◌<◌, Bool, true, false, List, [], ◌∷◌, ◌++◌, length, get_or}
-use Rattle.std.proofs.Common.{map, take, refl, sym, ◌∙◌, ap, arith, append_assoc}
+use Rattle.std.proofs.Common.{◌≡◌, ℕ, zero, suc, ◌+◌, ◌<◌, Bool, true, false, List, [], ◌∷◌, ◌++◌, length, get_or, map}
+use Rattle.std.proofs.Common.{take, refl, sym, ◌∙◌, ap, arith, append_assoc}
 use Rattle.std.specs.Prelude.{nat_eq}
 use Rattle.std.specs.List.{range_with_len, sum}
 use Rattle.std.proofs.lemmas.List.Sums.{sum_by-append, sum_by-cons}
@@ -23,32 +23,41 @@ range_more a (suc m) n =
     rw (one, shift) (ap (λ xs. a ∷ xs) (range_more (a + 1) m n))
 
 pub pythons_more : (from m n : ℕ) → pythons from (m + n) ≡ pythons from m ++ pythons (from + m) n
-pythons_more from m n = ap (map (λ k. Python k)) (range_more from m n) ∙ map-append (λ k. Python k) (range_with_len from m) (range_with_len (from + m) n)
+pythons_more from m n = ap (map (λ k. Python k)) (range_more from m n)
+    ∙ map-append (λ k. Python k) (range_with_len from m) (range_with_len (from + m) n)
 
 pub sum_more : (xs : List ℕ) (i : ℕ) (d : ℕ) → i < length xs → sum (take (i + 1) xs) ≡ sum (take i xs) + get_or xs i d
 sum_more xs i d within =
     let last : sum (get_or xs i d ∷ []) ≡ get_or xs i d = omega (arith, sum_by-cons (λ x. x) (get_or xs i d) []) in
-    ap sum (take_more xs i d within) ∙ sum_by-append (λ x. x) (take i xs) (get_or xs i d ∷ []) ∙ ap (λ n. sum (take i xs) + n) last
+    ap sum (take_more xs i d within) ∙ sum_by-append (λ x. x) (take i xs) (get_or xs i d ∷ [])
+    ∙ ap (λ n. sum (take i xs) + n) last
 
 -- so many more behind others
-pub adds_more : (first old more : List Item) (from m n next total : ℕ) → old ≡ first ++ pythons from m → more ≡ old ++ pythons next n
+pub adds_more : (first old more : List Item) (from m n next total : ℕ) → old ≡ first ++ pythons from m
+    → more ≡ old ++ pythons next n
     → next ≡ from + m → total ≡ m + n → more ≡ first ++ pythons from total
 adds_more first old more from m n next total was adds at count =
-    adds ∙ rw (was, at, count) (append_assoc first (pythons from m) (pythons (from + m) n) ∙ ap (λ xs. first ++ xs) (sym (pythons_more from m n)))
+    adds ∙ rw (was, at, count) (append_assoc first (pythons from m) (pythons (from + m) n)
+    ∙ ap (λ xs. first ++ xs) (sym (pythons_more from m n)))
 
 -- ---- a step
 
-pub merged_step : (whole items mid more : List Item) (before after : List Bool) (left rest : List ℕ) (i python size next : ℕ) (has : Bool)
+pub merged_step : (whole items mid more : List Item) (before after : List Bool) (left rest : List ℕ)
+    (i python size next : ℕ) (has : Bool)
     → before ≡ has ∷ after → whole ≡ items ++ merged_from before left i python
-    → size ≡ size_if has left → rest ≡ rest_if has left → mid ≡ items ++ pythons python size → more ≡ mid ++ Native i ∷ []
+    → size ≡ size_if has left → rest ≡ rest_if has left → mid ≡ items ++ pythons python size
+    → more ≡ mid ++ Native i ∷ []
     → next ≡ python + size → whole ≡ more ++ merged_from after rest (i + 1) next
 unfolding merged_from
 merged_step whole items mid more before after left rest i python size next has b w s r m e n =
-    w ∙ rw (b, e, m, n, r, s) (sym (append_assoc (items ++ pythons python (size_if has left)) (Native i ∷ []) (merged_from after (rest_if has left) (i + 1) (python + size_if has left))
-    ∙ append_assoc items (pythons python (size_if has left)) (Native i ∷ merged_from after (rest_if has left) (i + 1) (python + size_if has left))))
+    w ∙ rw (b, e, m, n, r, s) (sym (append_assoc (items ++ pythons python (size_if has left)) (Native i ∷ [])
+    (merged_from after (rest_if has left) (i + 1) (python + size_if has left))
+    ∙ append_assoc items (pythons python (size_if has left))
+    (Native i ∷ merged_from after (rest_if has left) (i + 1) (python + size_if has left))))
 
 pub merged_end : (whole items more : List Item) (rest : List Bool) (left : List ℕ) (i python : ℕ) → rest ≡ []
-    → whole ≡ items ++ merged_from rest left i python → more ≡ items ++ behind_mark NotFound python (sum left) → more ≡ whole
+    → whole ≡ items ++ merged_from rest left i python → more ≡ items ++ behind_mark NotFound python (sum left)
+    → more ≡ whole
 unfolding merged_from
 merged_end whole items more rest left i python none w m = m ∙ sym (w ∙ rw none refl)
 
@@ -97,12 +106,14 @@ module _ (mark : Item) (no_python : pythons_in (mark ∷ []) ≡ []) (no_native 
   pythons_behind : (from n : ℕ) → pythons_in (behind_mark mark from n) ≡ range_with_len from n
   unfolding pythons_in
   pythons_behind from zero = refl
-  pythons_behind from (suc n) = rw (some_more n) (pythons_both (mark ∷ []) (pythons from (suc n)) ∙ rw no_python (pythons_of_pythons from (suc n)))
+  pythons_behind from (suc n) = rw (some_more n)
+      (pythons_both (mark ∷ []) (pythons from (suc n)) ∙ rw no_python (pythons_of_pythons from (suc n)))
 
   natives_behind : (from n : ℕ) → natives_in (behind_mark mark from n) ≡ []
   unfolding natives_in
   natives_behind from zero = refl
-  natives_behind from (suc n) = rw (some_more n) (natives_both (mark ∷ []) (pythons from (suc n)) ∙ rw no_native (natives_of_pythons from (suc n)))
+  natives_behind from (suc n) = rw (some_more n)
+      (natives_both (mark ∷ []) (pythons from (suc n)) ∙ rw no_native (natives_of_pythons from (suc n)))
 
 not_found_python : pythons_in (NotFound ∷ []) ≡ []
 unfolding pythons_in
@@ -138,8 +149,10 @@ pub merged_pythons : (takes : List Bool) (runs : List ℕ) (native python : ℕ)
 unfolding merged_from
 merged_pythons [] runs native python = pythons_behind NotFound not_found_python not_found_native python (sum runs)
 merged_pythons (has ∷ takes) runs native python =
-    pythons_both (pythons python (size_if has runs)) (Native native ∷ merged_from takes (rest_if has runs) (native + 1) (python + size_if has runs))
-    ∙ ap (λ ns. ns ++ pythons_in (Native native ∷ merged_from takes (rest_if has runs) (native + 1) (python + size_if has runs))) (pythons_of_pythons python (size_if has runs))
+    pythons_both (pythons python (size_if has runs))
+    (Native native ∷ merged_from takes (rest_if has runs) (native + 1) (python + size_if has runs))
+    ∙ ap (λ ns. ns ++ pythons_in (Native native ∷ merged_from takes (rest_if has runs) (native + 1)
+    (python + size_if has runs))) (pythons_of_pythons python (size_if has runs))
     ∙ ap (λ ns. range_with_len python (size_if has runs) ++ ns)
     (pythons_behind_native native (merged_from takes (rest_if has runs) (native + 1) (python + size_if has runs))
     ∙ merged_pythons takes (rest_if has runs) (native + 1) (python + size_if has runs))
@@ -150,8 +163,10 @@ pub merged_natives : (takes : List Bool) (runs : List ℕ) (native python : ℕ)
 unfolding merged_from
 merged_natives [] runs native python = natives_behind NotFound not_found_python not_found_native python (sum runs)
 merged_natives (has ∷ takes) runs native python =
-    natives_both (pythons python (size_if has runs)) (Native native ∷ merged_from takes (rest_if has runs) (native + 1) (python + size_if has runs))
-    ∙ ap (λ ns. ns ++ natives_in (Native native ∷ merged_from takes (rest_if has runs) (native + 1) (python + size_if has runs))) (natives_of_pythons python (size_if has runs))
+    natives_both (pythons python (size_if has runs))
+    (Native native ∷ merged_from takes (rest_if has runs) (native + 1) (python + size_if has runs))
+    ∙ ap (λ ns. ns ++ natives_in (Native native ∷ merged_from takes (rest_if has runs) (native + 1)
+    (python + size_if has runs))) (natives_of_pythons python (size_if has runs))
     ∙ natives_behind_native native (merged_from takes (rest_if has runs) (native + 1) (python + size_if has runs))
     ∙ ap (λ ns. native ∷ ns) (merged_natives takes (rest_if has runs) (native + 1) (python + size_if has runs))
 
@@ -161,4 +176,5 @@ apart_pythons frames runs = pythons_both (natives 0 frames) (behind_mark Beside 
 
 pub apart_natives : (frames : ℕ) (runs : List ℕ) → natives_in (apart_items frames runs) ≡ numbers frames
 apart_natives frames runs = natives_both (natives 0 frames) (behind_mark Beside 0 (sum runs))
-    ∙ rw (natives_of_natives 0 frames, natives_behind Beside beside_python beside_native 0 (sum runs)) (append-nil (range_with_len 0 frames))
+    ∙ rw (natives_of_natives 0 frames, natives_behind Beside beside_python beside_native 0 (sum runs))
+    (append-nil (range_with_len 0 frames))

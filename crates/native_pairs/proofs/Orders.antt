@@ -1,11 +1,13 @@
 -- Flags without the first that is set.
-use Rattle.std.proofs.Common.{◌≡◌, ℕ, ◌+◌, Bool, true, false, not, cond, List, [], ◌∷◌, ◌++◌, sym, ◌∙◌, arith, append_assoc}
+use Rattle.std.proofs.Common.{◌≡◌, ℕ, ◌+◌, Bool, true, false, not, cond, List, [], ◌∷◌, ◌++◌, sym, ◌∙◌, arith}
+use Rattle.std.proofs.Common.{append_assoc}
 use Rattle.std.specs.Prelude.{◌&&◌}
 use Rattle.std.proofs.lemmas.List.{append-nil}
 use Rattle.std.proofs.lemmas.List.Sums.{sum_by-cons}
 use Rattle.native_pairs.specs.Order.{calls_in, without_first}
 
-one_less : (others : List Bool) (e : Bool) (after : List Bool) (more : List Bool) → more ≡ others ++ e ∷ [] → others ++ e ∷ after ≡ more ++ after
+one_less : (others : List Bool) (e : Bool) (after : List Bool) (more : List Bool) → more ≡ others ++ e ∷ []
+    → others ++ e ∷ after ≡ more ++ after
 one_less others e after more adds = rw adds (sym (append_assoc others (e ∷ []) after))
 
 -- one more flag
@@ -23,7 +25,8 @@ turn whole others more before after false false pushed next b w m p n =
     w ∙ rw b (rw n (one_less others false after more (rw p at m)))
 
 -- no more flags
-pub turned : (whole others rest : List Bool) (is_first : Bool) → rest ≡ [] → whole ≡ others ++ cond is_first (without_first rest) rest → others ≡ whole
+pub turned : (whole others rest : List Bool) (is_first : Bool) → rest ≡ []
+    → whole ≡ others ++ cond is_first (without_first rest) rest → others ≡ whole
 unfolding without_first
 turned whole others rest true none w = sym (w ∙ rw none (append-nil others))
 turned whole others rest false none w = sym (w ∙ rw none (append-nil others))

@@ -12,7 +12,14 @@ pub loop-preserved : goal.loop-preserved
 loop-preserved c = record {
   adds = c.in_ok-push.ensures.items ∙ ap (λ xs. xs ++ Python c.loop.next ∷ []) c.loop.invariant.adds
       ∙ append_assoc c.args.items.now.items (pythons c.args.from c.loop.counter) (Python c.loop.next ∷ [])
-      ∙ ap (λ xs. c.args.items.now.items ++ xs) (sym (map-range_with_len_more (λ n. Python n) c.args.from c.loop.counter c.loop.next (sym c.loop.invariant.next)));
+      ∙ ap (λ xs. c.args.items.now.items ++ xs)
+      (sym (map-range_with_len_more (λ n. Python n) c.args.from c.loop.counter c.loop.next
+      (sym c.loop.invariant.next)));
   next = omega (arith, c.loop.invariant.next);
-  few = omega (arith, c.loop.invariant.few, ap length c.in_ok-push.ensures.items, length-append c.loop.items.items (Python c.loop.next ∷ []));
+  few = omega (
+    arith,
+    c.loop.invariant.few,
+    ap length c.in_ok-push.ensures.items,
+    length-append c.loop.items.items (Python c.loop.next ∷ []),
+  );
 }

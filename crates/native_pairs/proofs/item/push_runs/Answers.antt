@@ -8,8 +8,8 @@ loop-size-preserved c =
     let total = sum_more c.args.runs.now c.loop-size.size-index _ c.loop-size-test.true in
     record {
       adds = adds_more c.args.items.now.items c.loop-size.items.items c.push_pythons.new.items.items c.args.from
-          (sum (take c.loop-size.size-index c.args.runs.now)) _ c.loop-size.next _ c.loop-size.invariant.adds c.in_ok-next.ensures.adds
-          c.loop-size.invariant.next total;
+          (sum (take c.loop-size.size-index c.args.runs.now)) _ c.loop-size.next _ c.loop-size.invariant.adds
+          c.in_ok-next.ensures.adds c.loop-size.invariant.next total;
       next = omega (arith, c.in_ok-next.ensures.next, c.loop-size.invariant.next, total);
       few = c.in_ok-next.ensures.few;
     }
