@@ -1,10 +1,10 @@
 -- Both lists in one.
-use Rattle.std.proofs.Common.{◌≡◌, ℕ, zero, suc, ◌+◌, ◌<◌, Bool, true, false, List, [], ◌∷◌, ◌++◌, length, get_or, map}
-use Rattle.std.proofs.Common.{take, refl, sym, ◌∙◌, ap, arith, append_assoc}
+use Rattle.std.proofs.Common.{◌≡◌, ℕ, zero, suc, ◌+◌, Bool, true, false, List, [], ◌∷◌, ◌++◌, length, map}
+use Rattle.std.proofs.Common.{refl, sym, ◌∙◌, ap, arith, append_assoc}
 use Rattle.std.specs.Prelude.{nat_eq}
 use Rattle.std.specs.List.{range_with_len, sum}
-use Rattle.std.proofs.lemmas.List.Sums.{sum_by-append, sum_by-cons}
-use Rattle.std.proofs.lemmas.List.{append-nil, map-append, take_more}
+use Rattle.std.proofs.lemmas.List.Sums.{sum_by-cons}
+use Rattle.std.proofs.lemmas.List.{append-nil, map-append}
 use Rattle.native_pairs.specs.declared.item.Item.{Item}
 use Rattle.native_pairs.specs.declared.item.Item.TheVariants.{Python, Native, NotFound, Beside}
 use Rattle.native_pairs.specs.Items.{apart_items, behind_mark, merged_from, natives, natives_in, numbers, pythons}
@@ -25,12 +25,6 @@ range_more a (suc m) n =
 pub pythons_more : (from m n : ℕ) → pythons from (m + n) ≡ pythons from m ++ pythons (from + m) n
 pythons_more from m n = ap (map (λ k. Python k)) (range_more from m n)
     ∙ map-append (λ k. Python k) (range_with_len from m) (range_with_len (from + m) n)
-
-pub sum_more : (xs : List ℕ) (i : ℕ) (d : ℕ) → i < length xs → sum (take (i + 1) xs) ≡ sum (take i xs) + get_or xs i d
-sum_more xs i d within =
-    let last : sum (get_or xs i d ∷ []) ≡ get_or xs i d = omega (arith, sum_by-cons (λ x. x) (get_or xs i d) []) in
-    ap sum (take_more xs i d within) ∙ sum_by-append (λ x. x) (take i xs) (get_or xs i d ∷ [])
-    ∙ ap (λ n. sum (take i xs) + n) last
 
 -- so many more behind others
 pub adds_more : (first old more : List Item) (from m n next total : ℕ) → old ≡ first ++ pythons from m
