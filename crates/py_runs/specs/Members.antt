@@ -1,7 +1,7 @@
 -- The members of a thread's chain of frames, and the C frames of 3.11, as far as they are asked for and in memory.
 use Rattle.std.specs.Prelude.{◌≡◌, ℕ, zero, suc, ◌+◌, nat_eq, not, Bool, true, false, List, [], ◌∷◌, Option, Some, None}
-use Rattle.std.specs.Prelude.{Ok, Err}
-use Rattle.process_memory.specs.Memory.{Found, Memory, record_at, word_at}
+use Rattle.std.specs.Result.{result_ok}
+use Rattle.process_memory.specs.Memory.{Memory, record_at, word_at}
 use Rattle.py_fields.specs.declared.layout.CframeAt.{CframeAt}
 use Rattle.py_fields.specs.declared.layout.Layout.{Layout}
 use Rattle.py_runs.specs.declared.c_frame.CFrame.{CFrame}
@@ -10,21 +10,16 @@ use Rattle.py_runs.specs.declared.member.Met.{Met}
 use Rattle.py_runs.specs.declared.run_rule.RunEnd.{RunEnd}
 use Rattle.py_runs.specs.declared.run_rule.RunEnd.TheVariants.{Each, Entry, Shim}
 
--- what is found, where it is
-abbrev pub known : {T : Type 0} → Found T → Option T
-known (Ok x) = Some x
-known (Err f) = None
-
 abbrev pub first_of : Option (List ℕ) → Option ℕ
 first_of (Some (byte ∷ bytes)) = Some byte
 first_of other = None
 
--- the byte at an address, and the word
+-- the byte at an address, and the word, where they are there
 abbrev pub byte_known : Memory → ℕ → Option ℕ
-byte_known m a = first_of (known (record_at m a 1))
+byte_known m a = first_of (result_ok (record_at m a 1))
 
 abbrev pub word_known : Memory → ℕ → Option ℕ
-word_known m a = known (word_at m a)
+word_known m a = result_ok (word_at m a)
 
 -- ---- where a run ends
 
