@@ -12,10 +12,12 @@ returns-in_err-named g c =
 pub returns-in_err-back : goal.returns-in_err-back
 returns-in_err-back g c =
     let p = err_from_is_err_and c.from_residual-in_err-back.result c.from_residual-in_err-back.ensures.1 in
-    rw p.1 (reading_gives 2 _ (reading_then (λ m. Unit {0}) c.in_ok-named.ensures c.in_err-back.ensures (λ m a b. tt)) (omega arith) (λ m h. tt))
+    rw p.1 (reading_gives 2 _ (reading_then (λ m. Unit {0}) c.in_ok-named.ensures c.in_err-back.ensures (λ m a b. tt))
+    (omega arith) (λ m h. tt))
 
 pub returns : goal.returns
 returns g c = reading_gives 2 _
-    (reading_then (λ m. c.c_frame_by.result ≡ c_frame_at c.args.current c.args.previous m c.args.at) c.in_ok-named.ensures c.in_ok-back.ensures
+    (reading_then (λ m. c.c_frame_by.result ≡ c_frame_at c.args.current c.args.previous m c.args.at)
+    c.in_ok-named.ensures c.in_ok-back.ensures
     (λ m a b. c.c_frame_by.ensures ∙ ap (λ one. c_frame_by c.args.at one c.in_ok-back.back) a
     ∙ ap (λ two. c_frame_by c.args.at (word_known m (c.args.at + c.args.current)) two) b)) (omega arith) (λ m h. h)

@@ -7,7 +7,8 @@ abbrev pub invariant-loop-at : goal.invariant-loop-at
 invariant-loop-at g l = record {
   within : l.met ≤ 1048576;
   reading : Reading (2 * l.met) (g.P.ProcessMemory.seen l.initial.process) (g.P.ProcessMemory.seen l.process)
-      (λ m. c_frames_from l.current l.previous m 1048576 l.first ≡ l.frames.items ++ c_frames_from l.current l.previous m (1048576 - l.met) l.at);
+      (λ m. c_frames_from l.current l.previous m 1048576 l.first
+      ≡ l.frames.items ++ c_frames_from l.current l.previous m (1048576 - l.met) l.at);
 }
 
 abbrev pub decreases-loop-at : goal.decreases-loop-at

@@ -7,7 +7,8 @@ use Rattle.py_runs.proofs.thread.read_runs.Goals as goal
 
 pub returns-in-Some : goal.returns-in-Some
 returns-in-Some g c = reading_gives _ _
-    (reading_then (λ m. IfOk c.runs_by.result (λ runs. runs.items ≡ runs_at c.args.layout.now c.args.end m c.args.thread c.args.count))
+    (reading_then (λ m. IfOk c.runs_by.result
+    (λ runs. runs.items ≡ runs_at c.args.layout.now c.args.end m c.args.thread c.args.count))
     c.in_ok-named.ensures c.runs_by.ensures
     (λ m a b. said c.runs_by.result (runs_by c.args.layout.now c.args.end m c.args.count (Some c.in-Some.named))
     (runs_at c.args.layout.now c.args.end m c.args.thread c.args.count)
@@ -16,4 +17,5 @@ returns-in-Some g c = reading_gives _ _
 
 pub returns-in-None : goal.returns-in-None
 returns-in-None g c = reading_gives _ _ c.in_ok-named.ensures (omega arith)
-    (λ m a. c.new.ensures.items ∙ ap (λ n. runs_by c.args.layout.now c.args.end m c.args.count n) (sym c.in-None.is ∙ a))
+    (λ m a. c.new.ensures.items ∙ ap (λ n. runs_by c.args.layout.now c.args.end m c.args.count n)
+    (sym c.in-None.is ∙ a))

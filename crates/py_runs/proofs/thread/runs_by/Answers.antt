@@ -15,14 +15,17 @@ returns-in_err-first g c =
 pub returns-in_err-spans : goal.returns-in_err-spans
 returns-in_err-spans g c =
     let p = err_from_is_err_and c.from_residual-in_err-spans.result c.from_residual-in_err-spans.ensures.1 in
-    rw p.1 (reading_gives _ _ (reading_then (λ m. Unit {0}) c.in_ok-first.ensures c.in_err-spans.ensures (λ m a b. tt)) (omega arith) (λ m h. tt))
+    rw p.1 (reading_gives _ _ (reading_then (λ m. Unit {0}) c.in_ok-first.ensures c.in_err-spans.ensures (λ m a b. tt))
+    (omega arith) (λ m h. tt))
 
 pub returns : goal.returns
 returns g c = reading_gives _ _
-    (reading_then (λ m. IfOk c.bordered.result (λ runs. runs.items ≡ runs_by c.args.layout.now c.args.end m c.args.count (Some c.args.named)))
-    (reading_then (λ m. c.in_ok-spans.spans.items ≡ spans_by c.args.layout.now c.args.end m c.args.count (current_of m c.args.layout.now.cframe c.args.named))
-    c.in_ok-first.ensures c.in_ok-spans.ensures (λ m a b. b ∙ ap (λ f. spans_by c.args.layout.now c.args.end m c.args.count f) a))
-    c.bordered.ensures
+    (reading_then (λ m. IfOk c.bordered.result
+    (λ runs. runs.items ≡ runs_by c.args.layout.now c.args.end m c.args.count (Some c.args.named)))
+    (reading_then (λ m. c.in_ok-spans.spans.items
+    ≡ spans_by c.args.layout.now c.args.end m c.args.count (current_of m c.args.layout.now.cframe c.args.named))
+    c.in_ok-first.ensures c.in_ok-spans.ensures
+    (λ m a b. b ∙ ap (λ f. spans_by c.args.layout.now c.args.end m c.args.count f) a)) c.bordered.ensures
     (λ m a b. said c.bordered.result (bordered c.args.end m c.args.named c.deref.result.now)
     (runs_by c.args.layout.now c.args.end m c.args.count (Some c.args.named))
     (ap (λ rs. bordered c.args.end m c.args.named rs) (c.deref.ensures.value ∙ a)) b))
