@@ -1,6 +1,6 @@
 -- What is told is waited for: its class is the type that is looked for, and its word the one that is waited at.
 use Rattle.std.proofs.Common.{◌≡◌, ℕ, zero, suc, ◌+◌, ◌-◌, ◌*◌, ◌≤◌, refl, sym, ap, ◌∙◌, arith, true, false, Bool}
-use Rattle.std.proofs.Common.{inl, inr, subst}
+use Rattle.std.proofs.Common.{◌≢◌, inl, inr, subst}
 use Rattle.std.specs.Prelude.{◌==◌, ◌&&◌, not, Option, Some, None, Ok, Err, ◌⊎◌, if◌then◌else◌, nat_le}
 use Rattle.std.proofs.lemmas.Bool.Decides.{nat_tests}
 use Rattle.process_memory.specs.Memory.{Memory, Found, ◌>>=◌, word_at}
@@ -46,12 +46,20 @@ IsGood m p at x = IsGoodBy m p at x.address x.kind
 pub same_class : (v c : ℕ) → (not (c == 0) && (v == c)) ≡ true → c ≡ v
 same_class v c e = grind (arith, nat_tests, e)
 
+-- and it isn't 0
+pub some_class : (v c : ℕ) → (not (c == 0) && (v == c)) ≡ true → v ≢ 0
+some_class v c e = grind (arith, nat_tests, e)
+
 -- by the class of an object and its word
 of_class : (m : Memory) (klass at a c : ℕ) (w : Option Waitable) → is_of w (Some c) ≡ true
     → word_at m (a + klass) ≡ Ok c → word_at m (a + place_of w) ≡ Ok at → OfSome w (IsHeld m klass at a)
 of_class m klass at a c None is class semaphore = absurd (cc)
 of_class m klass at a c (Some v) is class semaphore =
-    record { class = class ∙ ap Ok (same_class v.class c is); semaphore = semaphore }
+    record {
+      typed = some_class v.class c is;
+      class = class ∙ ap Ok (same_class v.class c is);
+      semaphore = semaphore;
+    }
 
 module _ (m : Memory) (p : WaitPlaces) (at a c : ℕ) (class : word_at m (a + p.klass) ≡ Ok c) where
   picked : (lock rlock queue : Bool) (h : Held) → is_of p.lock (Some c) ≡ lock → is_of p.rlock (Some c) ≡ rlock

@@ -22,7 +22,7 @@ use Rattle.py_waits.specs.Places.{is_of}
 use Rattle.py_waits.specs.Waits.{IsHeld, IsParked, IsWaiting, OfSome, held_by, is_within, looked_at, owner_at, told_at}
 use Rattle.py_waits.specs.Waits.{wait_at, wait_if}
 use Rattle.py_waits.specs.Words.{word_if, word_in}
-use Rattle.py_waits.proofs.Held.{IsGood, IsGoodBy, frame_good, known_some, same_class}
+use Rattle.py_waits.proofs.Held.{IsGood, IsGoodBy, frame_good, known_some, same_class, some_class}
 
 -- ---- parked threads
 
@@ -51,6 +51,7 @@ module _ (m : Memory) (klass at : ℕ) where
     address = a;
     same = cc;
     parked = record {
+      typed = some_class v.class c of;
       class = class ∙ ap Ok (same_class v.class c of);
       high = high;
       byte = byte ∙ ap Ok place;

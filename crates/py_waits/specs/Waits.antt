@@ -1,8 +1,8 @@
 -- What a thread waits for that stands at a word in the system. That it waits for the interpreter's lock where the word
 -- lies in its record is CPython's (`struct _gil_runtime_state`, Include/internal/pycore_gil.h), whose condition is in
 -- it.
-use Rattle.std.specs.Prelude.{◌≡◌, ℕ, zero, suc, ◌+◌, ◌-◌, ◌≤◌, ◌<◌, ◌^◌, nat_le, nat_lt, ◌&&◌, Bool, true, false, ◌⊎◌}
-use Rattle.std.specs.Prelude.{Option, Some, None, Ok, if◌then◌else◌, IsTrue}
+use Rattle.std.specs.Prelude.{◌≡◌, ◌≢◌, ℕ, zero, suc, ◌+◌, ◌-◌, ◌≤◌, ◌<◌, ◌^◌, nat_le, nat_lt, ◌&&◌, Bool, true, false}
+use Rattle.std.specs.Prelude.{◌⊎◌, Option, Some, None, Ok, if◌then◌else◌, IsTrue}
 use Rattle.std.specs.Option.{option_or}
 use Rattle.process_memory.specs.Memory.{Memory, Found, ◌>>=◌, word_at}
 use Rattle.py_fields.specs.declared.layout.Layout.{Layout}
@@ -44,13 +44,15 @@ abbrev pub is_within : Option LockRange → ℕ → Bool
 is_within None at = false
 is_within (Some r) at = nat_le r.address at && nat_lt (at - r.address) r.size
 
--- a thread that stands at a word waits for an object of a type: its semaphore is that word
+-- a thread that stands at a word waits for an object of a type, whose address isn't 0: its semaphore is that word
 pub record IsHeld (m : Memory) (klass at address : ℕ) (w : Waitable) : Type 0 where
+  pub typed : w.class ≢ 0
   pub class : word_at m (address + klass) ≡ Ok w.class
   pub semaphore : word_at m (address + w.place) ≡ Ok at
 
 -- or the word before that one is the address of the object's own byte
 pub record IsParked (m : Memory) (klass at address : ℕ) (w : Waitable) : Type 0 where
+  pub typed : w.class ≢ 0
   pub class : word_at m (address + klass) ≡ Ok w.class
   pub high : 8 ≤ at
   pub byte : word_at m (at - 8) ≡ Ok (address + w.place)

@@ -5,7 +5,7 @@ ghost use Rattle.py_waits.specs.Places.{held_kind, is_of, place_of};
 /// A type of objects at which threads wait.
 #[derive(Clone, Copy, Debug, Drop, PartialEq, Eq)]
 pub struct Waitable {
-    /// The address of the type; 0 where it isn't known.
+    /// The address of the type.
     pub class: u64,
     /// Where such an object has the address of its semaphore, 8 bytes; of one in whose own bytes threads are parked,
     /// where that byte stands.
