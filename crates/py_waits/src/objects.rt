@@ -176,10 +176,7 @@ pub(crate) fn slot_step<P: ProcessMemory>(
 fn less(address: u64, by: u64) -> Option<u64>
     ensures { result ≡ less address by }
 {
-    if by <= address {
-        return Some(address - by);
-    }
-    None
+    address.checked_sub(by)
 }
 
 /// The object whose byte stands at an address.
