@@ -13,7 +13,8 @@ use Rattle.py_waits.specs.declared.places.Kind.TheVariants as kind
 use Rattle.py_waits.specs.declared.places.WaitPlaces.{WaitPlaces}
 use Rattle.py_waits.specs.declared.places.Waitable.{Waitable}
 use Rattle.py_waits.specs.Frames.{in_frame, slots_from}
-use Rattle.py_waits.specs.Objects.{address_in, as_waited, held_at, is_word, object_at, receiver_at, slot_at, slot_step, through}
+use Rattle.py_waits.specs.Objects.{address_in, as_waited, held_at, is_word, object_at, receiver_at, slot_at, slot_step}
+use Rattle.py_waits.specs.Objects.{through}
 use Rattle.py_waits.specs.Objects.{waited_if}
 use Rattle.py_waits.specs.Places.{held_kind, is_of, place_of}
 use Rattle.py_waits.specs.Waits.{IsHeld, IsParked, OfSome}

@@ -118,11 +118,14 @@ module _ (m : Memory) (p : WaitPlaces) (at : ℕ) where
   searched_good l thread parked x told before =
       let back = l.frame.back in
       let third_of = λ (third : Option ℕ) (two : Option Waited). in_frame l m p at third two in
-      let two_of = λ (second : Option ℕ) (two : Option Waited). word_in m second back >>= (λ third. third_of third two) in
+      let two_of =
+      λ (second : Option ℕ) (two : Option Waited). word_in m second back >>= (λ third. third_of third two) in
       let second_of = λ (second : Option ℕ) (one : Option Waited).
       in_frame l m p at second one >>= (λ two. two_of second two) in
-      let one_of = λ (first : Option ℕ) (one : Option Waited). word_in m first back >>= (λ second. second_of second one) in
-      let first = bound (newest_at l m thread) (λ f. in_frame l m p at f parked >>= (λ one. one_of f one)) (Some x) told in
+      let one_of =
+      λ (first : Option ℕ) (one : Option Waited). word_in m first back >>= (λ second. second_of second one) in
+      let first =
+      bound (newest_at l m thread) (λ f. in_frame l m p at f parked >>= (λ one. one_of f one)) (Some x) told in
       let one = bound (in_frame l m p at first.0 parked) (λ o. one_of first.0 o) (Some x) first.2 in
       let second = bound (word_in m first.0 back) (λ s. second_of s one.0) (Some x) one.2 in
       let two = bound (in_frame l m p at second.0 one.0) (λ t. two_of second.0 t) (Some x) second.2 in

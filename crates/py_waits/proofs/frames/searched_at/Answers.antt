@@ -33,7 +33,8 @@ returns-in_err-two g c =
     rw p.1 ((reads_next 2308 _ c.in_ok-first.ensures
     (reads_next 2306 _ c.in_ok-one.ensures
     (reads_next 1538 _ c.in_ok-second.ensures
-    (reads_halt 1537 p.0 _ c.in_err-two.ensures (ap read_fault p.2) (omega arith)) (omega arith)) (omega arith)) (omega arith)))
+    (reads_halt 1537 p.0 _ c.in_err-two.ensures (ap read_fault p.2) (omega arith)) (omega arith)) (omega arith))
+    (omega arith)))
 
 pub returns-in_err-third : goal.returns-in_err-third
 unfolding searched_at
@@ -43,7 +44,8 @@ returns-in_err-third g c =
     (reads_next 2306 _ c.in_ok-one.ensures
     (reads_next 1538 _ c.in_ok-second.ensures
     (reads_next 1537 _ c.in_ok-two.ensures
-    (reads_halt 769 p.0 _ c.in_err-third.ensures (ap read_fault p.2) (omega arith)) (omega arith)) (omega arith)) (omega arith)) (omega arith)))
+    (reads_halt 769 p.0 _ c.in_err-third.ensures (ap read_fault p.2) (omega arith)) (omega arith)) (omega arith))
+    (omega arith)) (omega arith)))
 
 pub returns : goal.returns
 unfolding searched_at

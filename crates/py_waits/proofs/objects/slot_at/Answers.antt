@@ -15,11 +15,12 @@ pub returns-in_err-own : goal.returns-in_err-own
 unfolding slot_at
 returns-in_err-own g c =
     let p = err_from_is_err_and c.from_residual-in_err-own.result c.from_residual-in_err-own.ensures.1 in
-    rw p.1 (reads_next 6 _ c.in_ok-word.ensures (reads_halt 2 p.0 _ (rw c.address_in-object.ensures at c.in_err-own.ensures) (ap read_fault p.2)
+    rw p.1 (reads_next 6 _ c.in_ok-word.ensures
+    (reads_halt 2 p.0 _ (rw c.address_in-object.ensures at c.in_err-own.ensures) (ap read_fault p.2)
     (omega arith)) (omega arith))
 
 pub returns : goal.returns
 unfolding slot_at
 returns g c =
-    reads_next 6 _ c.in_ok-word.ensures (reads_next 5 _ (rw c.address_in-object.ensures at c.in_ok-own.ensures) (rw c.address_in-object.ensures at c.through.ensures) (omega arith))
-    (omega arith)
+    reads_next 6 _ c.in_ok-word.ensures (reads_next 5 _ (rw c.address_in-object.ensures at c.in_ok-own.ensures)
+    (rw c.address_in-object.ensures at c.through.ensures) (omega arith)) (omega arith)

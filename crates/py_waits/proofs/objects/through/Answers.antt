@@ -14,4 +14,5 @@ returns-in_err-receiver-in-None g c =
 
 pub returns-in_ok-receiver-in-None : goal.returns-in_ok-receiver-in-None
 returns-in_ok-receiver-in-None g c =
-    rw c.in-None.is (reads_next 3 _ c.in_ok-receiver-in-None.ensures (rw c.address_in.ensures at c.object_at.ensures) (omega arith))
+    rw c.in-None.is (reads_next 3 _ c.in_ok-receiver-in-None.ensures (rw c.address_in.ensures at c.object_at.ensures)
+    (omega arith))

@@ -6,6 +6,7 @@ use Rattle.py_waits.proofs.text.push_waits.Goals as goal
 
 pub loop-interpreter-preserved : goal.loop-interpreter-preserved
 loop-interpreter-preserved c =
-    push_more (λ (i : InterpreterWaits). threads_text i.threads.items) (string_bytes c.args.text.now) _ _ c.args.waits.now
-    c.loop-interpreter.interpreter-index c.interpreter-item.result c.interpreter-item.result c.loop-interpreter-test.true
-    c.interpreter-item.is c.loop-interpreter.invariant (rw c.deref.ensures.value at c.in_ok-push_threads.ensures)
+    push_more (λ (i : InterpreterWaits). threads_text i.threads.items) (string_bytes c.args.text.now) _ _
+    c.args.waits.now c.loop-interpreter.interpreter-index c.interpreter-item.result c.interpreter-item.result
+    c.loop-interpreter-test.true c.interpreter-item.is c.loop-interpreter.invariant
+    (rw c.deref.ensures.value at c.in_ok-push_threads.ensures)

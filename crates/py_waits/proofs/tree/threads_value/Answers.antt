@@ -10,4 +10,5 @@ pub returns : goal.returns
 returns c =
     view-Array c.loop-thread.values
     ∙ ap (λ ds. array (items_of ds)) (c.loop-thread.invariant
-    ∙ ap (λ xs. map (λ x. thread_tree x) xs) (take_all c.loop-thread.thread-index c.args.threads.now c.loop-thread-test.false))
+    ∙ ap (λ xs. map (λ x. thread_tree x) xs)
+    (take_all c.loop-thread.thread-index c.args.threads.now c.loop-thread-test.false))

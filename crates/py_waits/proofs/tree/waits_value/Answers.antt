@@ -10,4 +10,5 @@ pub returns : goal.returns
 returns c =
     view-Array c.loop-interpreter.values
     ∙ ap (λ ds. array (items_of ds)) (c.loop-interpreter.invariant
-    ∙ ap (λ xs. map (λ x. interpreter_tree x) xs) (take_all c.loop-interpreter.interpreter-index c.args.waits.now c.loop-interpreter-test.false))
+    ∙ ap (λ xs. map (λ x. interpreter_tree x) xs)
+    (take_all c.loop-interpreter.interpreter-index c.args.waits.now c.loop-interpreter-test.false))

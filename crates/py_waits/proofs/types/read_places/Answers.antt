@@ -33,7 +33,8 @@ returns-in_err-queue g c =
     rw p.1 ((reads_next 786463 _ c.in_ok-modules.ensures
     (reads_next 786462 _ c.in_ok-lock.ensures
     (reads_next 524308 _ c.in_ok-rlock.ensures
-    (reads_halt 262154 p.0 _ c.in_err-queue.ensures (ap read_fault p.2) (omega arith)) (omega arith)) (omega arith)) (omega arith)))
+    (reads_halt 262154 p.0 _ c.in_err-queue.ensures (ap read_fault p.2) (omega arith)) (omega arith)) (omega arith))
+    (omega arith)))
 
 pub returns : goal.returns
 unfolding places_at
