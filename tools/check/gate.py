@@ -107,6 +107,7 @@ CHECKS = (
     Check("real/real_exceptions", OF_SALVAGE),
     Check("real/real_values", OF_SALVAGE),
     Check("real/real_waits", OF_BOTH),
+    Check("real/real_example", OF_BOTH),
     Check("real/real_refusals", OF_BOTH),
 )
 """What is run, in order."""
