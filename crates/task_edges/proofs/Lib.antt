@@ -1,0 +1,5 @@
+pub mod Adding
+pub mod Index
+pub mod Searching
+pub mod Sets
+pub mod Answering
