@@ -1,4 +1,3 @@
 pub mod Each
 pub mod Noting
 pub mod Plain
-mod Standings

@@ -14,6 +14,9 @@ use Rattle.exception_texts.proofs.Plain.{no_float as all_exceptions}
 use Rattle.exception_texts.specs.declared.told.InterpreterExceptions.{InterpreterExceptions}
 use Rattle.py_waits.proofs.Plain.{no_float as all_waits}
 use Rattle.py_waits.specs.declared.told.InterpreterWaits.{InterpreterWaits}
+use Rattle.paired_stacks.proofs.Plain.{no_float as all_paired}
+use Rattle.paired_stacks.specs.declared.stack.PairedStack.{PairedStack}
+use Rattle.memory_sections.specs.Values.{paired_tree_if}
 use Rattle.memory_sections.specs.Values.{exceptions_tree_if, names_tree_if, native_tree_if, tasks_tree_if, waits_tree_if}
 
 pub names : (told : Option (Vec InterpreterNames Global)) → has_float (names_tree_if told) ≡ false
@@ -35,3 +38,7 @@ waits (Some told) = all_waits told.items
 pub native : (limit : ℕ) (told : Option NativeStacks) → has_float (native_tree_if limit told) ≡ false
 native limit None = refl
 native limit (Some told) = stacks limit (stacks_shown told)
+
+pub paired : (told : Option (Vec (Option PairedStack) Global)) → has_float (paired_tree_if told) ≡ false
+paired None = refl
+paired (Some told) = all_paired told.items

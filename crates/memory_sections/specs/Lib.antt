@@ -1,6 +1,7 @@
 pub mod Each
 pub mod Exceptions
 pub mod Locals
+pub mod Pairs
 pub mod Pythons
 pub mod Waits
 pub mod Text

@@ -33,6 +33,8 @@ use Rattle.memory_sections.specs.Each.{EachTold}
 pub use Rattle.memory_sections.specs.Each.{ToldIf}
 use Rattle.memory_sections.specs.Exceptions.{ExceptionsAre}
 use Rattle.memory_sections.specs.Locals.{ValuesAre}
+use Rattle.memory_sections.specs.Pairs.{PairsAre}
+use Rattle.py_fields.specs.declared.version.Version.{Version}
 use Rattle.memory_sections.specs.Waits.{WaitsAre}
 use Rattle.memory_sections.specs.declared.told.MemoryTold.{MemoryTold}
 
@@ -100,13 +102,14 @@ NativeAre asked strict bytes images m is told =
 -- ---- all of them
 
 -- What is told of a process whose core has these bytes and was opened with these images, by which this is known of it,
--- by a layout and the records of its version, over this memory, and of whose interpreters these are shown; values of
--- locals by so many `-l`.
-pub record AreMemoryTold (asked : Sections) (times : ℕ) (bytes : List ℕ) (images : Pushed) (k : Known) (l : Layout)
-    (r : Records) (m : Memory) (is : List SalvagedInterpreter) (told : MemoryTold) : Type 0 where
+-- of this version of Python, by a layout and the records of that version, over this memory, and of whose interpreters these
+-- are shown; values of locals by so many `-l`.
+pub record AreMemoryTold (asked : Sections) (times : ℕ) (bytes : List ℕ) (images : Pushed) (k : Known) (v : Version)
+    (l : Layout) (r : Records) (m : Memory) (is : List SalvagedInterpreter) (told : MemoryTold) : Type 0 where
   pub names : NamesAre asked.names l (rule_of l r) m is told.names
   pub tasks : TasksAre asked.tasks l r m is told.tasks
   pub exceptions : ExceptionsAre asked.exceptions l r m is told.exceptions
   pub waits : WaitsAre asked.waits bytes k l r m is told.waits
   pub native : NativeAre asked.native asked.strict bytes images m is told.native
+  pub stacks : PairsAre bytes k v l r m is told.native told.stacks
   pub values : ValuesAre times k l m is told.values

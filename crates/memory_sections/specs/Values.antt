@@ -5,6 +5,8 @@ use Rattle.serde_json.specs.Data.{Data, null}
 use Rattle.native_stacks.specs.Stacks.{stacks_shown}
 use Rattle.native_stacks.specs.Trees.{stacks_tree}
 use Rattle.native_stacks.specs.declared.stacks.NativeStacks.{NativeStacks}
+use Rattle.paired_stacks.specs.Trees.{all_tree as paired_tree}
+use Rattle.paired_stacks.specs.declared.stack.PairedStack.{PairedStack}
 use Rattle.exception_texts.specs.Trees.{all_exceptions_tree}
 use Rattle.exception_texts.specs.declared.told.InterpreterExceptions.{InterpreterExceptions}
 use Rattle.py_waits.specs.Trees.{waits_tree}
@@ -33,3 +35,7 @@ waits_tree_if (Some waits) = waits_tree waits.items
 abbrev pub native_tree_if : (limit : ℕ) → Option NativeStacks → Data
 native_tree_if limit None = null
 native_tree_if limit (Some stacks) = stacks_tree limit (stacks_shown stacks)
+
+abbrev pub paired_tree_if : Option (Vec (Option PairedStack) Global) → Data
+paired_tree_if None = null
+paired_tree_if (Some stacks) = paired_tree stacks.items

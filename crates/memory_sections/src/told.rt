@@ -10,6 +10,7 @@ use crate::exceptions::exceptions_section;
 use crate::locals::values_section;
 use crate::names::names_section;
 use crate::native::native_section;
+use crate::pairs::pairs_section;
 use crate::tasks::tasks_section;
 use crate::waits::waits_section;
 use core_stacks::Process;
@@ -18,6 +19,7 @@ use image_memory::Images;
 use local_values::LocalValues;
 use missed_reads::Misses;
 use native_stacks::NativeStacks;
+use paired_stacks::PairedStack;
 use py_fronts::SalvagedInterpreter;
 use py_records::Records;
 use py_waits::InterpreterWaits;
@@ -39,6 +41,8 @@ pub struct MemoryTold {
     pub waits: Option<Vec<InterpreterWaits>>,
     /// The native stacks of the threads of the process.
     pub native: Option<NativeStacks>,
+    /// One stack of the Python frames and the native ones of each thread that has a native stack.
+    pub stacks: Option<Vec<Option<PairedStack>>>,
     /// The values of the locals of the frames that are shown.
     pub values: Option<LocalValues>,
 }
@@ -70,7 +74,7 @@ pub fn tell_memory(
 ) -> Result<MemoryTold, AllocError>
     requires sound { IsSound process.now.layout }
     ensures { IfOk result (AreMemoryTold asked times process.now.dump.core images.now (known_of process.now.info)
-        process.now.layout records.now (byte_at (regions_of process.now.dump)) interpreters.now) }
+        process.now.version process.now.layout records.now (byte_at (regions_of process.now.dump)) interpreters.now) }
 {
     let names = names_section(alloc, asked.names, process, records, misses, interpreters)?;
     let tasks = tasks_section(alloc, asked.tasks, process, records, misses, interpreters)?;
@@ -92,6 +96,7 @@ pub fn tell_memory(
         interpreters,
         misses,
     )?;
+    let stacks = pairs_section(alloc, process, records, &native, interpreters, misses)?;
     let values = values_section(alloc, times, process, misses, interpreters)?;
     Ok(MemoryTold {
         names,
@@ -99,6 +104,7 @@ pub fn tell_memory(
         exceptions,
         waits,
         native,
+        stacks,
         values,
     })
 }

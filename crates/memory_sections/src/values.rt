@@ -2,7 +2,7 @@
 ghost use Rattle.std.specs.Prelude.{◌≡◌, IfOk};
 ghost use Rattle.serde_json.specs.View.{view};
 ghost use Rattle.memory_sections.specs.Values.{exceptions_tree_if, names_tree_if, native_tree_if, tasks_tree_if};
-ghost use Rattle.memory_sections.specs.Values.{waits_tree_if};
+ghost use Rattle.memory_sections.specs.Values.{paired_tree_if, waits_tree_if};
 
 use crate::told::MemoryTold;
 use serde_json::Value;
@@ -55,6 +55,17 @@ pub fn native_value(alloc: Global, limit: usize, told: &MemoryTold) -> Result<Va
 {
     match &told.native {
         Some(stacks) => native_stacks::native_value(alloc, limit, stacks),
+        None => Ok(Value::Null),
+    }
+}
+
+/// One stack of the Python frames and the native ones of each thread (`paired_stacks::paired_value`), or null. The one
+/// error is want of memory.
+pub fn paired_value(alloc: Global, told: &MemoryTold) -> Result<Value, AllocError>
+    ensures { IfOk result (λ value. view value ≡ paired_tree_if told.now.stacks) }
+{
+    match &told.stacks {
+        Some(stacks) => paired_stacks::paired_value(alloc, stacks),
         None => Ok(Value::Null),
     }
 }

@@ -1,7 +1,8 @@
 -- What status 0 tells where a core is asked for.
 use Rattle.std.proofs.Common.{◌≡◌, ◌≢◌, ℕ, List, [], ◌∷◌, ◌++◌, Ok, Err}
 use Rattle.std.proofs.Common.{Some, None, inl, inr, ap, sym, subst, true, false, refl, ne_eqb, ◌∙◌}
-use Rattle.std.specs.Prelude.{Option, Bool, codes, nat_eq, not}
+use Rattle.std.specs.Prelude.{Option, Bool, Vec, codes, nat_eq, not}
+use Rattle.std.specs.Global.{Global}
 use Rattle.std.specs.Io.KnownBytes.{Appends}
 use Rattle.std.proofs.lemmas.Option.{same_Some}
 use Rattle.outside.specs.Files.{Told}
@@ -11,13 +12,21 @@ use Rattle.crash_signal.specs.Signals.{signal_told}
 use Rattle.thread_registers.specs.Threads.{threads_told}
 use Rattle.py_fields.specs.declared.layout.Layout.{Layout}
 use Rattle.py_layout.specs.File.{IsRightFor}
+use Rattle.py_fields.specs.declared.version.Version.{Version}
+use Rattle.py_process.specs.Facts.{Known}
+use Rattle.py_records.specs.Versions.{records_of}
+use Rattle.py_records.specs.declared.records.Records.{Records}
 use Rattle.py_records.specs.declared.table.RecordTable.{RecordTable}
+use Rattle.native_stacks.specs.declared.stacks.NativeStacks.{NativeStacks}
+use Rattle.paired_stacks.specs.declared.stack.PairedStack.{PairedStack}
+use Rattle.memory_sections.specs.Pairs.{ArePairs, PairsAre}
 use Rattle.py_fronts.specs.declared.salvaged.SalvagedInterpreter.{SalvagedInterpreter}
 use Rattle.salvage_words.specs.Salvage.{Salvage, Wanted}
 use Rattle.salvage_words.specs.Salvage.Wanted.{salvage}
 use Rattle.salvage_report.specs.declared.cause.Cause.{Cause}
 use Rattle.salvage_report.specs.Headline.{AreTables, HasSalvaged, SaysLayout, SaysNames, SaysRegisters}
-use Rattle.salvage_report.specs.Headline.{SaysExceptions, SaysNative, SaysSignal, SaysTasks, SaysValues, SaysWaits}
+use Rattle.salvage_report.specs.Headline.{SaysExceptions, SaysNative, SaysSignal, SaysStacks, SaysTasks, SaysValues}
+use Rattle.salvage_report.specs.Headline.{SaysWaits}
 use Rattle.memory_sections.specs.Told.{ToldIf}
 use Rattle.py_fronts.specs.declared.search.Looked.{Looked}
 use Rattle.salvage_report.specs.Outcome.{IsCoreOutcome, IsOutcomeBy, IsSalvagedBy, Outcome, shown_or_none}
@@ -27,7 +36,7 @@ use Rattle.program_run.specs.Ends.{Reaches}
 use Rattle.program_run.specs.Reading.{AreRead}
 use Rattle.salvage_report.specs.Reading.{files_of}
 use Rattle.salvage_report.specs.Run.{ComesTo, pysalvage}
-use Rattle.process_memory.specs.Memory.{Found}
+use Rattle.process_memory.specs.Memory.{Found, Memory}
 use Rattle.py_selftest.specs.Checking.{CheckShown, check_shown}
 use Rattle.py_selftest.specs.declared.checking.LayoutCheck.{LayoutCheck}
 use Rattle.py_selftest.proofs.Verdicts.{check_says}
@@ -190,6 +199,28 @@ pub says_native : (s : Salvage) (told : Told) (old new : SinkSeen) → HasSalvag
 says_native s told old new h asked =
     let one = told_one s.sections.native _ h.left.memory.native h.is_left.memory.native asked in
     record { has = h; stacks = one.0; is = one.1; are = one.2 }
+
+-- where native stacks are told, so are these
+paired_one : (bytes : List ℕ) (k : Known) (v : Version) (l : Layout) (r : Records) (m : Memory)
+    (is : List SalvagedInterpreter) (n : NativeStacks) (told : Option (Vec (Option PairedStack) Global))
+    → PairsAre bytes k v l r m is (Some n) told
+    → (one : Vec (Option PairedStack) Global) × (told ≡ Some one) × ArePairs bytes k v l r m is n one
+paired_one bytes k v l r m is n None are = absurd are
+paired_one bytes k v l r m is n (Some one) are = (one, refl, are)
+
+pub says_stacks : (s : Salvage) (told : Told) (old new : SinkSeen) → HasSalvaged s told old new
+    → s.sections.native ≡ true → SaysStacks s told old new
+says_stacks s told old new h asked =
+    let native = told_one s.sections.native _ h.left.memory.native h.is_left.memory.native asked in
+    let k = h.opened.known in
+    let v = h.opened.version in
+    let l = h.opened.layout in
+    let r = records_of h.tables v in
+    let m = memory_in h.opened.dumped in
+    let is = h.left.salvaged.interpreters.items in
+    let one = paired_one h.core k v l r m is native.0 h.left.memory.stacks
+    (subst (λ n. PairsAre h.core k v l r m is n h.left.memory.stacks) native.1 h.is_left.memory.stacks) in
+    record { has = h; natives = native.0; natives_are = native.1; stacks = one.0; is = one.1; are = one.2 }
 
 pub says_values : (s : Salvage) (told : Told) (old new : SinkSeen) → HasSalvaged s told old new
     → s.locals ≢ 0 → SaysValues s told old new

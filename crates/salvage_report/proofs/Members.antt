@@ -4,7 +4,7 @@ use Rattle.std.specs.Prelude.{codes}
 use Rattle.crash_signal.specs.Trees.{signal_tree as info_tree}
 use Rattle.memory_sections.specs.Told.{names_given}
 use Rattle.memory_sections.specs.Values.{exceptions_tree_if, names_tree_if, native_tree_if, tasks_tree_if}
-use Rattle.memory_sections.specs.Values.{waits_tree_if}
+use Rattle.memory_sections.specs.Values.{paired_tree_if, waits_tree_if}
 use Rattle.missed_reads.specs.Told.{missed_tree}
 use Rattle.py_selftest.specs.Trees.{check_tree}
 use Rattle.salvage_json.specs.Salvaged.{ended_tree, interpreters_tree, process_tree, signal_tree}
@@ -16,21 +16,22 @@ use Rattle.serde_json.specs.Data.{Data, Members, boolean, member, no_members, ob
 use Rattle.shown_values.specs.LeftOut.{put_left_out, values_left_out, with_left_out}
 use Rattle.thread_registers.specs.Trees.{threads_tree}
 
--- thirteen members, and those behind them
-abbrev thirteen : (a b c d e f g h i j k l m : Data) → Members → Members
-thirteen a b c d e f g h i j k l m rest =
+-- fourteen members, and those behind them
+abbrev fourteen : (a b c d e f g h i j k l s m : Data) → Members → Members
+fourteen a b c d e f g h i j k l s m rest =
     member (codes "exceptions") a (member (codes "interpreters") b (member (codes "layout_check") c (
     member (codes "missing") d (member (codes "more") e (member (codes "names") f (member (codes "native") g (
     member (codes "process") h (member (codes "registers") i (member (codes "search_ended") j (
-    member (codes "signal") k (member (codes "signal_info") l (member (codes "tasks") m rest))))))))))))
+    member (codes "signal") k (member (codes "signal_info") l (member (codes "stacks") s (
+    member (codes "tasks") m rest)))))))))))))
 
-placed : (count : Option ℕ) (a b c d e f g h i j k l m v n w : Data)
+placed : (count : Option ℕ) (a b c d e f g h i j k l s m v n w : Data)
     → put (codes "waits") w (put (codes "version_by_names") n (put (codes "version") v
-    (put_left_out count (thirteen a b c d e f g h i j k l m no_members))))
-    ≡ thirteen a b c d e f g h i j k l m (with_left_out count (member (codes "version") v
+    (put_left_out count (fourteen a b c d e f g h i j k l s m no_members))))
+    ≡ fourteen a b c d e f g h i j k l s m (with_left_out count (member (codes "version") v
     (member (codes "version_by_names") n (member (codes "waits") w no_members))))
-placed None a b c d e f g h i j k l m v n w = refl
-placed (Some x) a b c d e f g h i j k l m v n w = refl
+placed None a b c d e f g h i j k l s m v n w = refl
+placed (Some x) a b c d e f g h i j k l s m v n w = refl
 
 pub last_placed : (limit : ℕ) (left : Left)
     → ◌≡◌ {A = Data} (object (with_last left (most_members limit left no_members))) (left_tree limit left)
@@ -42,5 +43,5 @@ last_placed limit left = λ i. object (placed (values_left_out left.memory.value
     (boolean left.salvaged.more) (names_tree_if left.memory.names) (native_tree_if limit left.memory.native)
     (process_tree left.process) (section_tree threads_tree (registers_shown left.told.registers))
     (ended_tree left.salvaged.looked) (signal_tree left.signal) (section_tree info_tree left.told.signal)
-    (tasks_tree_if left.memory.tasks) (string (told_version left.named left.version)) (boolean left.named)
+    (paired_tree_if left.memory.stacks) (tasks_tree_if left.memory.tasks) (string (told_version left.named left.version)) (boolean left.named)
     (waits_tree_if left.memory.waits) i)

@@ -21,7 +21,7 @@ use Rattle.memory_sections.specs.Told.{names_given}
 use Rattle.memory_sections.specs.Values.{waits_tree_if}
 use Rattle.py_waits.specs.declared.told.InterpreterWaits.{InterpreterWaits}
 use Rattle.salvage_json.proofs.Trees.{ended, integer, interpreters, process, signal}
-use Rattle.memory_sections.proofs.Plain.{exceptions, names, native, tasks, waits}
+use Rattle.memory_sections.proofs.Plain.{exceptions, names, native, paired, tasks, waits}
 use Rattle.missed_reads.specs.Told.{RefusedTold, missed_tree}
 use Rattle.missed_reads.proofs.NoFloat.{no_float as missed}
 use Rattle.py_selftest.specs.Checking.{CheckShown}
@@ -107,6 +107,6 @@ no_float limit left plain = λ i. exceptions left.memory.exceptions i
     || (check_section (check_of left.check) i || (missing_section (missing_shown left.told.missing) i
     || (false || (names left.memory.names i || (native limit left.memory.native i || (process left.process
     i || (threads_section (registers_shown left.told.registers) i || (ended left.salvaged.looked i
-    || (signal left.signal i || (info_section left.told.signal i || (tasks left.memory.tasks i
+    || (signal left.signal i || (info_section left.told.signal i || (paired left.memory.stacks i || (tasks left.memory.tasks i
     || counted (values_left_out left.memory.values) (told_version left.named left.version) left.named
-    left.memory.waits i))))))))))))
+    left.memory.waits i)))))))))))))

@@ -61,7 +61,7 @@ module _ (s : Salvage) (ts : List RecordTable) (p : Process) (crash : Option Cra
     (sections : Told) (are : AreTold s.sections p.dump.core p.notes.process salvaged.interpreters.items sections)
     (check : Option LayoutCheck)
     (checks : CheckIs s.sections.check_layout p.dump.core (process_checked p salvaged.interpreters.items) check)
-    (memory : MemoryTold) (reads : AreMemoryTold s.sections s.locals p.dump.core images (known_of p.info) p.layout
+    (memory : MemoryTold) (reads : AreMemoryTold s.sections s.locals p.dump.core images (known_of p.info) p.version p.layout
     (records_of ts p.version) (byte_at (regions_of p.dump)) salvaged.interpreters.items memory)
     (values : ShownValues)
     (shows : AreShown s.json memory.values (shown_addresses salvaged.interpreters.items) values)
@@ -103,7 +103,7 @@ module _ (s : Salvage) (ts : List RecordTable) (p : Process) (crash : Option Cra
     told = subst (λ core. AreTold s.sections core p.notes.process salvaged.interpreters.items sections) is.same are;
     check = subst (λ core. CheckIs s.sections.check_layout core (process_checked p salvaged.interpreters.items) check)
         is.same checks;
-    memory = subst (λ core. AreMemoryTold s.sections s.locals core images (known_of p.info) p.layout
+    memory = subst (λ core. AreMemoryTold s.sections s.locals core images (known_of p.info) p.version p.layout
         (records_of ts p.version) (byte_at (regions_of p.dump)) salvaged.interpreters.items memory) is.same reads;
     values = shows;
   }

@@ -1,5 +1,5 @@
 -- What a run that salvages a core promises under status 0.
-use Rattle.std.specs.Prelude.{◌≡◌, ◌≢◌, ◌∷◌, ◌++◌, [], ℕ, List, length, Ok, Some, Vec}
+use Rattle.std.specs.Prelude.{◌≡◌, ◌≢◌, ◌∷◌, ◌++◌, [], ℕ, List, length, Ok, Option, Some, Vec}
 use Rattle.std.specs.Global.{Global}
 use Rattle.std.specs.Io.KnownBytes.{Appends}
 use Rattle.outside.specs.Files.{Told}
@@ -23,9 +23,11 @@ use Rattle.py_process.specs.Reports.{memory_in}
 use Rattle.thread_names.specs.declared.names.InterpreterNames.{InterpreterNames}
 use Rattle.memory_sections.specs.Each.{EachTold}
 use Rattle.memory_sections.specs.Exceptions.{AreExceptions}
+use Rattle.memory_sections.specs.Pairs.{ArePairs}
 use Rattle.memory_sections.specs.Waits.{AreWaits}
 use Rattle.memory_sections.specs.Told.{AreNamesOf, AreNative, AreTasksOf, rule_of, slot_share}
 use Rattle.native_stacks.specs.declared.stacks.NativeStacks.{NativeStacks}
+use Rattle.paired_stacks.specs.declared.stack.PairedStack.{PairedStack}
 use Rattle.py_records.specs.Versions.{records_of}
 use Rattle.exception_texts.specs.declared.told.InterpreterExceptions.{InterpreterExceptions}
 use Rattle.py_waits.specs.declared.told.InterpreterWaits.{InterpreterWaits}
@@ -154,6 +156,18 @@ pub record SaysNative (s : Salvage) (told : Told) (old new : SinkSeen) : Type 0 
   pub is : has.left.memory.native ≡ Some stacks
   pub are : AreNative s.sections.strict has.core (images_read s.images has.images) (memory_in has.opened.dumped)
       (python_threads has.left.salvaged.interpreters.items) stacks
+
+-- Of each of these which of its frames runs which of Python's: from 3.11 on by where the borders of the runs lie, and up
+-- to 3.10 by the order of both (`ArePaired` of paired_stacks).
+pub record SaysStacks (s : Salvage) (told : Told) (old new : SinkSeen) : Type 0 where
+  pub has : HasSalvaged s told old new
+  pub natives : NativeStacks
+  pub natives_are : has.left.memory.native ≡ Some natives
+  pub stacks : Vec (Option PairedStack) Global
+  pub is : has.left.memory.stacks ≡ Some stacks
+  pub are : ArePairs has.core has.opened.known has.opened.version has.opened.layout
+      (records_of has.tables has.opened.version) (memory_in has.opened.dumped) has.left.salvaged.interpreters.items
+      natives stacks
 
 -- The values of the locals of the frames that are shown, by so many `-l`: those of memory, by the types that the
 -- symbols of the process's images name (`repr_at` of py_reprs), and of each its text and, where JSON is asked for, its

@@ -72,8 +72,8 @@ pub record IsLeft (s : Salvage) (ts : List RecordTable) (bytes : List ℕ) (imag
   pub salvaged : salvaged_of left.salvaged ≡ left_at s bytes o left.salvaged.crash
   pub told : AreTold s.sections bytes left.process left.salvaged.interpreters.items left.told
   pub check : CheckIs s.sections.check_layout bytes (layout_checked o left.salvaged.interpreters.items) left.check
-  pub memory : AreMemoryTold s.sections s.locals bytes images o.known o.layout (records_of ts o.version)
-      (memory_in o.dumped) left.salvaged.interpreters.items left.memory
+  pub memory : AreMemoryTold s.sections s.locals bytes images o.known o.version o.layout
+      (records_of ts o.version) (memory_in o.dumped) left.salvaged.interpreters.items left.memory
   pub values : AreShown s.json left.memory.values (shown_addresses left.salvaged.interpreters.items) left.values
 
 -- the text, or that no interpreter is shown, with what was looked at

@@ -12,7 +12,7 @@ use Rattle.thread_registers.specs.Trees.{threads_tree}
 use Rattle.salvage_json.specs.Salvaged.{ended_tree, interpreters_tree, process_tree, signal_tree}
 use Rattle.memory_sections.specs.Told.{names_given}
 use Rattle.memory_sections.specs.Values.{exceptions_tree_if, names_tree_if, native_tree_if, tasks_tree_if}
-use Rattle.memory_sections.specs.Values.{waits_tree_if}
+use Rattle.memory_sections.specs.Values.{paired_tree_if, waits_tree_if}
 use Rattle.missed_reads.specs.Told.{RefusedTold, missed_tree}
 use Rattle.py_selftest.specs.Trees.{check_tree}
 use Rattle.salvage_report.specs.LayoutChecked.{check_of}
@@ -46,7 +46,8 @@ most_members limit left rest = first_members limit left (
     member (codes "search_ended") (ended_tree left.salvaged.looked) (
     member (codes "signal") (signal_tree left.signal) (
     member (codes "signal_info") (section_tree info_tree left.told.signal) (
-    member (codes "tasks") (tasks_tree_if left.memory.tasks) rest))))))
+    member (codes "stacks") (paired_tree_if left.memory.stacks) (
+    member (codes "tasks") (tasks_tree_if left.memory.tasks) rest)))))))
 
 -- a version; of one that the names of files tell the major and the minor number alone
 abbrev pub told_version : (named : Bool) → Version → List ℕ

@@ -16,7 +16,7 @@ ghost use Rattle.salvage_report.specs.Sections.{missing_shown, registers_shown};
 use crate::left::Left;
 use crash_signal::{CrashSignal, Untold};
 use memory_sections::{
-    exceptions_value, names_told, names_value, native_value, tasks_value, waits_value,
+    exceptions_value, names_told, names_value, native_value, paired_value, tasks_value, waits_value,
 };
 use missed_reads::{MissedBlocks, Misses, missed_blocks, missed_value};
 use py_layout::Version;
@@ -120,12 +120,14 @@ fn most_members(alloc: Global, limit: usize, left: &Left) -> Result<Map<String, 
     let search_ended = ended_value(alloc, &left.salvaged.looked)?;
     let signal = signal_value(alloc, left.signal)?;
     let signal_info = info_value(alloc, &left.told.signal)?;
+    let stacks = paired_value(alloc, &left.memory)?;
     let tasks = tasks_value(alloc, &left.memory)?;
     put(&mut map, alloc, "process", process)?;
     put(&mut map, alloc, "registers", registers)?;
     put(&mut map, alloc, "search_ended", search_ended)?;
     put(&mut map, alloc, "signal", signal)?;
     put(&mut map, alloc, "signal_info", signal_info)?;
+    put(&mut map, alloc, "stacks", stacks)?;
     put(&mut map, alloc, "tasks", tasks)?;
     Ok(map)
 }

@@ -4,7 +4,7 @@ use Rattle.std.proofs.lemmas.List.{at_drop_all}
 use Rattle.elf64_core.specs.Notes.{noted}
 use Rattle.thread_registers.proofs.Rest.{cons_as_list, next, no_note}
 use Rattle.memory_sections.specs.Waits.{standing_noted, standings_of}
-use Rattle.memory_sections.proofs.Standings.{part_more}
+use Rattle.paired_stacks.proofs.Following.{part_more}
 use Rattle.memory_sections.proofs.waits.standings_of.Goals as goal
 
 pub loop-note-preserved : goal.loop-note-preserved

@@ -12,7 +12,7 @@ use Rattle.salvage_report.proofs.Agreement.{cause_own}
 use Rattle.salvage_report.proofs.Ends.{four_rose, run_complete, run_only, run_status}
 use Rattle.salvage_report.proofs.TellingRefused.{may_tell, outcome_after, told_at_one, untold_else}
 use Rattle.salvage_report.proofs.Headline.{salvaged_of_run, says_layout, says_names, says_native, says_registers}
-use Rattle.salvage_report.proofs.Headline.{says_exceptions, says_signal, says_tasks, says_values, says_waits}
+use Rattle.salvage_report.proofs.Headline.{says_exceptions, says_signal, says_stacks, says_tasks, says_values, says_waits}
 use Rattle.salvage_report.proofs.Few.{asked_few}
 use Rattle.salvage_report.proofs.command.run.Goals as goal
 
@@ -75,6 +75,9 @@ returns-clause-tasks g c s asks on is = says_tasks s _ _ _ (returns-clause-headl
 
 pub returns-clause-waits : goal.returns-clause-waits
 returns-clause-waits g c s asks on is = says_waits s _ _ _ (returns-clause-headline g c s asks is) on
+
+pub returns-clause-stacks : goal.returns-clause-stacks
+returns-clause-stacks g c s asks on is = says_stacks s _ _ _ (returns-clause-headline g c s asks is) on
 
 pub returns-clause-native : goal.returns-clause-native
 returns-clause-native g c s asks on is = says_native s _ _ _ (returns-clause-headline g c s asks is) on

@@ -53,7 +53,7 @@ returns-then-is_empty c = λ bytes is crashed ne.
     c.in_ok-told.ensures in
     let sections = subst (λ xs. AreTold asked c.args.process.dump.core process xs told) c.deref-3.ensures.value core in
     let memory = subst (λ xs. AreMemoryTold asked c.args.words.now.locals c.args.process.dump.core c.args.images.now
-    (known_of c.args.process.info) c.args.process.layout
+    (known_of c.args.process.info) c.args.process.version c.args.process.layout
     (records_of c.args.tables.now c.args.process.version) (byte_at (regions_of c.args.process.dump)) xs
     c.in_ok-memory.memory) c.deref-2.ensures.value c.in_ok-memory.ensures in
     let check = subst
@@ -84,7 +84,7 @@ returns c = λ bytes is crashed.
     c.in_ok-told.ensures in
     let sections = subst (λ xs. AreTold asked c.args.process.dump.core process xs told) c.deref-3.ensures.value core in
     let memory = subst (λ xs. AreMemoryTold asked c.args.words.now.locals c.args.process.dump.core c.args.images.now
-    (known_of c.args.process.info) c.args.process.layout
+    (known_of c.args.process.info) c.args.process.version c.args.process.layout
     (records_of c.args.tables.now c.args.process.version) (byte_at (regions_of c.args.process.dump)) xs
     c.in_ok-memory.memory) c.deref-2.ensures.value c.in_ok-memory.ensures in
     let check = subst

@@ -1,0 +1,4 @@
+pub mod Following
+pub mod Once
+pub mod Plain
+pub mod Totals
