@@ -61,6 +61,7 @@ CHECKS = (
     Check("tests/test_exceptions"),
     Check("tests/test_values"),
     Check("tests/test_waits"),
+    Check("tests/test_merged"),
     Check("tests/test_core_text"),
     Check("tests/test_layout_check"),
     Check("tests/test_layout_from_core"),
@@ -109,6 +110,7 @@ CHECKS = (
     Check("real/real_waits", OF_BOTH),
     Check("real/real_example", OF_BOTH),
     Check("real/real_refusals", OF_BOTH),
+    Check("real/real_pairs", OF_SALVAGE),
 )
 """What is run, in order."""
 

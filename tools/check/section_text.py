@@ -115,11 +115,48 @@ def check_layout(tree: Tree) -> None:
         raise Failure(f"{tree['verdict']!r}, where {others} differ")
 
 
+PAIRED_MARKS = {"not found", "beside"}
+"""The marks of one stack of Python's frames and native ones."""
+
+
+def check_paired_items(one: Tree, frames: int, natives: int) -> None:
+    """Fails where not each frame of a thread stands once in one stack, in its order, or a mark stands where none does."""
+    items = one["items"]
+    for it in items:
+        check_keys(it, "kind", *({"python": ("frame",), "native": ("frame", "hidden")}.get(it["kind"], ())))
+    for kind, count in (("python", frames), ("native", natives)):
+        if [it["frame"] for it in items if it["kind"] == kind] != list(range(count)):
+            raise Failure(f"not {count} {kind} frames in order: {items}")
+    marks = [it["kind"] for it in items if it["kind"] not in ("python", "native")]
+    if not set(marks) <= PAIRED_MARKS or len(marks) > 1 or marks == ["beside"] and one["pairing"] != "apart":
+        raise Failure(f"the marks {marks} by {one['pairing']}")
+
+
+def frames_in(part: Optional[Tree]) -> int:
+    """How many frames a stack has, or a part of one."""
+    return 0 if part is None else len(part.get("frames", part.get("first", ()))) + part["between"] + len(part["last"])
+
+
+def check_paired(tree: Tree) -> None:
+    """Fails where what is told of the threads with native stacks isn't one stack of both for each of Python's."""
+    if tree["native"] is None or len(tree["stacks"]) != len(tree["native"]):
+        raise Failure(f"{len(tree['stacks'])} stacks of both")
+    fronts = {it["address"]: it["frames"] for one in tree["interpreters"] for it in one["threads"]}
+    for native, one in zip(tree["native"], tree["stacks"]):
+        if (one is not None) != (native["python"]["kind"] == "thread"):
+            raise Failure(f"a stack of both of {native['python']}")
+        if one is not None:
+            check_keys(one, "items", "pairing", "thread")
+            if one["pairing"] not in ("address", "order", "apart"):
+                raise Failure(f"{one['pairing']!r} is no pairing")
+            check_paired_items(one, frames_in(fronts[one["thread"]]), frames_in(native["stack"]) + frames_in(native["guessed"]))
+
+
 def check_sections(tree: Tree, asked: Collection[str]) -> None:
     """Fails where a section isn't there by its flag, or has not what it has to have."""
     for key, flag in (("signal_info", "--signal"), ("registers", "--registers"), ("missing", "--missing"),
                       ("layout_check", "--check-layout"), ("names", "--names"), ("tasks", "--tasks"), ("exceptions", "--exceptions"),
-                      ("waits", "--waits"), ("native", "--native")):
+                      ("waits", "--waits"), ("native", "--native"), ("stacks", "--native")):
         if (tree[key] is not None) != (flag in asked):
             raise Failure(f"the section {key} is {tree[key]!r}, where {asked!r} are asked for")
     if tree["signal_info"] is not None:
@@ -134,6 +171,8 @@ def check_sections(tree: Tree, asked: Collection[str]) -> None:
         check_names(tree)
     if tree["waits"] is not None:
         check_waits(tree)
+    if tree["stacks"] is not None:
+        check_paired(tree)
     if tree["tasks"] is not None:
         check_tasks(tree)
 

@@ -38,6 +38,7 @@ def add_shown(parser: argparse.ArgumentParser) -> None:
     parser.add_argument("--no-signal", action="store_true", help="without the line that says how the signal came about")
     parser.add_argument("--registers", action="store_true", help="show the registers of each thread")
     parser.add_argument("--native", action="store_true", help="show the native stack of each thread")
+    parser.add_argument("--all-native", action="store_true", help="with --native: the interpreter's own native frames too")
     parser.add_argument("--strict", action="store_true", help="with --native: nothing that follows from a guess")
     parser.add_argument("--no-where", action="store_true", help="without the line that says where in native code the process died")
     parser.add_argument("--no-tasks", action="store_true", help="without the tasks of asyncio")
@@ -159,7 +160,7 @@ def options_of(words: argparse.Namespace) -> Options:
         cores=tuple("/dev/stdin" if it == "-" else it for it in words.core), locals=words.locals, hidden=hidden_by(words), signal=not words.no_signal, registers=words.registers, tasks=not words.no_tasks,
         exceptions=not words.no_exceptions,
         waits=not words.no_waits,
-        native=words.native, strict=words.strict, where=not words.no_where, shows_all=words.all, shows_stacks=words.stacks, frames=words.frames, source=words.source, json=words.json,
+        native=words.native or words.all_native, all_native=words.all_native, strict=words.strict, where=not words.no_where, shows_all=words.all, shows_stacks=words.stacks, frames=words.frames, source=words.source, json=words.json,
         collapsed=words.collapsed, html=words.html, group=words.group, plain=words.plain, root=words.root, maps=words.maps,
         keep=words.keep, memory=words.memory, any_layout=words.any_layout, layouts=words.layouts, records=words.records, program=words.program, salvage=words.salvage,
         version=words.version, by=words.by or ("exact" if words.plain else "crash"), keys=words.keys, key_line=words.key_line,

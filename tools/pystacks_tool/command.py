@@ -54,7 +54,7 @@ def collapse(options: Options) -> int:
     for name in options.cores:
         found = report_on(options, open_core(options, name))
         if found.report is not None:
-            counts.update(counts_of(found.report.threads))
+            counts.update(counts_of(found.report.threads, found.report))
         elif len(options.cores) == 1:
             return refused(found.answer)
         else:

@@ -76,6 +76,8 @@ class Thread(NamedTuple):
     """What it waits for, where that is asked for and known."""
     waits: str = ""
     """The same in words."""
+    address: str = ""
+    """The address of its record, where that is told."""
 
     @property
     def label(self) -> str:
@@ -140,6 +142,17 @@ class NativeFrame(NamedTuple):
     """By what else than a table its caller was found, if it was."""
 
 
+class PairedItem(NamedTuple):
+    """What stands in one stack of Python's frames and native ones."""
+
+    kind: str
+    """`python` or `native`, or a mark: `not found` or `beside`."""
+    frame: int = 0
+    """The frame's number among Python's, or among the native ones, those behind a guess last."""
+    is_hidden: bool = False
+    """Whether a native frame is the interpreter's own, between Python's."""
+
+
 class NativeStack(NamedTuple):
     """The native stack of a thread of the process."""
 
@@ -163,6 +176,12 @@ class NativeStack(NamedTuple):
     guessed_end: str = ""
     guess: str = ""
     """By what that was guessed."""
+    pairing: str = ""
+    """By what Python's frames stand among them: address, order or apart; nothing where that isn't told."""
+    thread: str = ""
+    """The address of the record of Python's thread, where that is told."""
+    items: Tuple[PairedItem, ...] = ()
+    """Both in one, the newest first."""
 
 
 class Task(NamedTuple):

@@ -33,6 +33,8 @@ class Options(NamedTuple):
     """Whether it is told what threads wait for."""
     native: bool = False
     """Whether native stacks are."""
+    all_native: bool = False
+    """Whether the interpreter's own native frames are shown between Python's."""
     strict: bool = False
     """Whether no native frame is shown that follows from a guess."""
     where: bool = True

@@ -107,4 +107,4 @@ def sources_of(options: Options) -> Optional[Sources]:
 def style_of(options: Options) -> Style:
     """How a report is shown."""
     is_whole = options.shows_stacks or options.locals > 0 or options.source is not None
-    return Style(has_colours(), options.shows_all, sources_of(options), is_whole, options.frames == ALL_FRAMES, columns())
+    return Style(has_colours(), options.shows_all, sources_of(options), is_whole, options.frames == ALL_FRAMES, columns(), options.all_native)

@@ -442,7 +442,7 @@ def trees() -> Iterator[Row]:
     interpreter = {"address": hex(HEAP), "lock": {"holder": 0, "kind": "read"}, "searched": False, "threads": [thread],
                    "threads_end": {"kind": "whole"}}
     tree = {"exceptions": None, "interpreters": [interpreter], "layout_check": None, "missing": None, "more": False, "names": None,
-            "native": None, "process": {"arguments": "p\n", "pid": 4}, "registers": None, "search_ended": None, "signal": 11, "signal_info": None,
+            "native": None, "process": {"arguments": "p\n", "pid": 4}, "registers": None, "search_ended": None, "signal": 11, "signal_info": None, "stacks": None,
             "tasks": None, "version": "3.9.0", "version_by_names": False, "waits": None}
     notes = [status_record(11, 4, 0x7F00), process_record(4, b"p", b"p\n")]
     text = lambda it: json.dumps(it, indent=2, ensure_ascii=False) + "\n"
@@ -536,7 +536,7 @@ def broken_tree(back: int, blocks: Sequence[int]) -> Dict[str, object]:
     interpreter = {"address": hex(HEAP), "lock": {"holder": 0, "kind": "read"}, "searched": False, "threads": [thread],
                    "threads_end": {"kind": "whole"}}
     return {"exceptions": None, "interpreters": [interpreter], "layout_check": None, **missed_object(blocks), "more": False, "names": None,
-            "native": None, "process": None, "registers": None, "search_ended": None, "signal": None, "signal_info": None, "tasks": None,
+            "native": None, "process": None, "registers": None, "search_ended": None, "signal": None, "signal_info": None, "stacks": None, "tasks": None,
             "version": "3.9.0", "version_by_names": False, "waits": None}
 
 

@@ -86,6 +86,7 @@ def salvage(
     return {
         "interpreters": list(interpreters), "layout_check": layout_check, "missing": None, "more": more,
         "names": names, "exceptions": None, "native": native, "process": process, "registers": registers, "signal": signal, "signal_info": info,
+        "stacks": None,
         "search_ended": None, "tasks": tasks, "version": "3.11.7", "version_by_names": False, "waits": waits,
     }
 

@@ -1,16 +1,20 @@
 """What `pysalvage --native` told of native stacks: frames, guesses and ends."""
 
 import os
-from typing import Dict, Optional, Tuple
+from itertools import zip_longest
+from typing import Dict, Optional, Sequence, Tuple
 
 from pystacks_tool.ask.dump import Tree
-from pystacks_tool.model import NativeFrame, NativeStack
+from pystacks_tool.model import NativeFrame, NativeStack, PairedItem
 
 FLAG = "--native"
 """The section's flag."""
 
 KEY = "native"
 """Its key in the JSON."""
+
+PAIRED_KEY = "stacks"
+"""The key of one stack of Python's frames and the native ones of each."""
 
 ENDS = {
     "no table": "{at} is in no table of its file", "no file": "{at} is in a file that isn't at hand", "unreadable": "unreadable at {at}",
@@ -46,6 +50,23 @@ def part_of(tree: Optional[Tree], is_guess: bool, names: Dict[str, str]) -> Tupl
         return (), 0, (), ""
     first, last = (tuple(frame_of(it, is_guess, names) for it in tree[part]) for part in ("frames", "last"))
     return first, tree["between"], last, end_of(tree["end"])
+
+
+def item_of(tree: Tree) -> PairedItem:
+    """An item of one stack of both."""
+    return PairedItem(tree["kind"], tree.get("frame", 0), tree.get("hidden", False))
+
+
+def with_items(stack: NativeStack, tree: Optional[Tree]) -> NativeStack:
+    """A stack with Python's frames among its own, where the program told that."""
+    if tree is None:
+        return stack
+    return stack._replace(pairing=tree["pairing"], thread=tree["thread"], items=tuple(map(item_of, tree["items"])))
+
+
+def stacks_of(told: Sequence[Tree], paired: Sequence[Optional[Tree]], names: Dict[str, str]) -> Tuple[NativeStack, ...]:
+    """The native stacks, each with Python's frames where that is told: an earlier program doesn't."""
+    return tuple(with_items(stack_of(it, names), one) for it, one in zip_longest(told, paired[:len(told)]))
 
 
 def stack_of(tree: Tree, names: Optional[Dict[str, str]] = None) -> NativeStack:

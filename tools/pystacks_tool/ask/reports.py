@@ -12,7 +12,7 @@ from typing import List, NamedTuple, Optional, Tuple
 from pystacks_tool.ask.dump import Tree, Unexpected, report_by_dump, tree_of
 from pystacks_tool.ask.layout import DIFFERS, layout_in, refusal
 from pystacks_tool.ask.names import add_names, missing_files, readable_names
-from pystacks_tool.ask.native import FLAG as NATIVE, KEY as NATIVE_KEY, stack_of
+from pystacks_tool.ask.native import FLAG as NATIVE, KEY as NATIVE_KEY, PAIRED_KEY, stacks_of as native_stacks_of
 from pystacks_tool.ask.parts import ask_growing, ask_over
 from pystacks_tool.ask.programs import NAMES, ask, dump_command, native_command, tasks_command, tells_tasks_as_text
 from pystacks_tool.ask.run import Answer, knows
@@ -140,36 +140,53 @@ def wants_native(options: Options, program: str, signal: Optional[int]) -> bool:
     return (options.native or options.where and signal in DEATHS) and knows(program, NATIVE)
 
 
-def native_told(options: Options, core: OpenedCore, program: str, tree: Tree, has_native: bool) -> Optional[List[Tree]]:
+class NativeTold(NamedTuple):
+    """What a program told of native stacks."""
+
+    stacks: List[Tree]
+    paired: List[Optional[Tree]]
+    """Of each how Python's frames stand among them; none where an earlier program doesn't tell it."""
+
+
+def taken(tree: Tree) -> NativeTold:
+    """What is told of native stacks, which the tree then no longer has."""
+    stacks, tree[NATIVE_KEY] = tree[NATIVE_KEY], None
+    paired = tree.get(PAIRED_KEY)
+    if PAIRED_KEY in tree:
+        tree[PAIRED_KEY] = None
+    return NativeTold(list(stacks), list(paired or ()))
+
+
+def native_told(options: Options, core: OpenedCore, program: str, tree: Tree, has_native: bool) -> Optional[NativeTold]:
     """The native stacks that a core's JSON has, which keeps them only where they are asked for, or those of a run of its own; nothing
     where that has none."""
     if has_native:
-        told, tree[NATIVE_KEY] = tree[NATIVE_KEY], None
-        return list(told)
+        return taken(tree)
     answer = ask_growing(core, lambda: native_command(options, program, core), options.native)
-    return list(json.loads(decoded(answer.out))[NATIVE_KEY]) if answer.status == 0 else None
+    return taken(json.loads(decoded(answer.out))) if answer.status == 0 else None
 
 
 def with_native(options: Options, core: OpenedCore, program: str, report: Report, tree: Tree, has_native: bool) -> Report:
     """The report with native stacks, where these are wanted. Where they can't be had it is as it was: they are told beside the stacks."""
     if not wants_native(options, program, report.signal):
         if has_native:
-            tree[NATIVE_KEY] = None
+            taken(tree)
         return report
     try:
         told = native_told(options, core, program, tree, has_native)
         if told is None:
             return report
-        add_names(told, [*core.images, *core.other_images()], core.root)
-        names = readable_names(told)
-        stacks = tuple(stack_of(it, names) for it in told)
+        add_names(told.stacks, [*core.images, *core.other_images()], core.root)
+        stacks = native_stacks_of(told.stacks, told.paired, readable_names(told.stacks))
     except (Fault, ValueError, KeyError, TypeError) as error:
         if options.native:
             raise error if isinstance(error, Fault) else Unexpected(f"its JSON: {error!r}") from None
         return report
     if options.native:
-        tree[NATIVE_KEY] = told
-        say_missing(missing_files(told))
+        tree[NATIVE_KEY] = told.stacks
+        if PAIRED_KEY in tree:
+            tree[PAIRED_KEY] = told.paired
+        say_missing(missing_files(told.stacks))
     return report._replace(native=stacks, shows_native=options.native)
 
 

@@ -108,7 +108,7 @@ def thread_of(tree: Tree) -> Thread:
     first, last = ([member_of(it) for it in frames[part]] for part in ("first", "last"))
     end = frames_end(frames["end"], frames["met"])
     return Thread(tree["thread_id"], tuple(first + last), tree["os_thread_id"], tree["thread_name"], tree["gil"],
-                  tree["crashed"], len(first), frames["between"], end)
+                  tree["crashed"], len(first), frames["between"], end, address=tree["address"])
 
 
 def interpreter_of(tree: Tree) -> Interpreter:

@@ -6,11 +6,13 @@ so that a line is a stack. Threads without frames have no line. Of a chain that 
 ends, and of one that is shown in parts a place between them how many frames aren't there.
 """
 
-from typing import Counter, Iterator, List, Mapping, Sequence, Tuple
+from typing import Counter, Iterator, List, Mapping, Optional, Sequence, Tuple
 
-from pystacks_tool.model import Frame, Thread
+from pystacks_tool.model import Frame, NativeFrame, NativeStack, Report, Thread
 from pystacks_tool.show.escape import in_place
 from pystacks_tool.show.folds import Fold, folded
+from pystacks_tool.show.merged import row_text, rows_of, stack_under
+from pystacks_tool.show.native import place_of
 
 def label(frame: Frame) -> str:
     """A frame in a line; or why it has no names, which doesn't end in a parenthesis, as each frame does."""
@@ -29,8 +31,22 @@ def labels(frames: Sequence[Frame], is_folded: bool) -> List[str]:
     return [f"\\u{{2e}}{text[1:]}" if text.startswith("...") and not is_line else text for text, is_line in rows]
 
 
-def places(thread: Thread, is_folded: bool = False) -> Tuple[str, ...]:
-    """A thread's frames, the outermost first."""
+def merged_labels(thread: Thread, stack: NativeStack) -> Iterator[str]:
+    """A thread's frames and its native ones in one stack, each in a line, the newest first."""
+    for row in rows_of(thread, stack, False):
+        if isinstance(row, Frame):
+            yield label(row)
+        elif isinstance(row, NativeFrame):
+            yield in_place(f"{place_of(row)} [C]")
+        else:
+            yield in_place(row_text(row))
+    yield from (in_place(f"... {it}") for it in (stack.end, stack.guessed_end, thread.end) if it)
+
+
+def places(thread: Thread, is_folded: bool = False, stack: Optional[NativeStack] = None) -> Tuple[str, ...]:
+    """A thread's frames, the outermost first; with its native ones, where these stand in one stack with them."""
+    if stack is not None:
+        return tuple(reversed(list(merged_labels(thread, stack))))
     first = thread.first if thread.between else None
     rows = labels(thread.frames[:first], is_folded)
     if first is not None:
@@ -40,9 +56,10 @@ def places(thread: Thread, is_folded: bool = False) -> Tuple[str, ...]:
     return tuple(reversed(rows))
 
 
-def counts_of(threads: Sequence[Thread]) -> Counter[Tuple[str, ...]]:
-    """How many threads have each stack, in the order of the first thread of each."""
-    return Counter(stack for stack in map(places, threads) if stack)
+def counts_of(threads: Sequence[Thread], report: Optional[Report] = None) -> Counter[Tuple[str, ...]]:
+    """How many threads have each stack, in the order of the first thread of each: of a report with native stacks, with these."""
+    stacks = (places(it, False, stack_under(report, it) if report else None) for it in threads)
+    return Counter(stack for stack in stacks if stack)
 
 
 def collapsed_lines(counts: Mapping[Tuple[str, ...], int]) -> Iterator[str]:

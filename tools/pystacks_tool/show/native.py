@@ -56,6 +56,11 @@ def stack_title(stack: NativeStack, name: Optional[str]) -> str:
     return f"Native stack of thread {stack.native}{whose}{' (crashed)' if stack.is_crashed else ''}{'' if stack.is_told else ': no registers'}"
 
 
+def end_lines(stack: NativeStack) -> Iterator[str]:
+    """How a native stack ends, where it doesn't end as a whole one does, and what stands behind a guess."""
+    yield from (f"    ... {in_line(it)}" for it in (stack.end, stack.guessed_end) if it)
+
+
 def own_lines(stack: NativeStack) -> Iterator[str]:
     """The lines of a native stack."""
     yield from part_lines(stack.frames, stack.between, stack.last, stack.end)

@@ -9,11 +9,12 @@ from typing import Dict, Iterator, List, Mapping, Optional, Sequence
 
 from pystacks_tool.ask.exceptions import summary_lines
 from pystacks_tool.groups.triage import Group
-from pystacks_tool.model import Interpreter, Report, Stack, Thread, stacks_of, whole_or_cut
+from pystacks_tool.model import Interpreter, NativeFrame, NativeStack, Report, Stack, Thread, stacks_of, whole_or_cut
 from pystacks_tool.show.collapse import places
 from pystacks_tool.show.escape import as_name, signal_name
 from pystacks_tool.show.flame import Flame, counted, flame_of
-from pystacks_tool.show.native import where_line
+from pystacks_tool.show.merged import row_text, rows_of, runs_of, stack_under
+from pystacks_tool.show.native import frame_line, where_line
 from pystacks_tool.show.page_frames import items_of, text
 from pystacks_tool.show.page_parts import SCRIPT, STYLE
 from pystacks_tool.show.page_sections import Section, sections_of
@@ -53,8 +54,24 @@ def text_lines(lines: Sequence[str]) -> str:
     return "\n".join(map(text, lines))
 
 
-def frame_items(thread: Thread, style: Style) -> Iterator[str]:
-    """The frames of a thread, and how they end."""
+def merged_items(thread: Thread, stack: NativeStack, style: Style) -> Iterator[str]:
+    """The frames of a thread and its native ones in one stack, and how both end."""
+    for frames, row in runs_of(rows_of(thread, stack, style.shows_hidden)):
+        yield from items_of(frames, style)
+        if isinstance(row, NativeFrame):
+            yield f"<li><i>{text(frame_line(row).strip())} [C]</i>"
+        elif row is not None:
+            yield f"<li class=\"end\">{text(row_text(row))}"
+    yield from (f"<li class=\"end\">... {text(it)}" for it in (stack.end, stack.guessed_end, thread.end) if it)
+    if thread.exceptions:
+        yield f"<li><pre>{text_lines(thread.exceptions)}</pre>"
+
+
+def frame_items(thread: Thread, style: Style, merged: Optional[NativeStack] = None) -> Iterator[str]:
+    """The frames of a thread, and how they end; with its native ones, where these stand in one stack with them."""
+    if merged is not None:
+        yield from merged_items(thread, merged, style)
+        return
     first = thread.first if thread.between else None
     yield from items_of(thread.frames[:first], style)
     if first is not None:
@@ -85,7 +102,7 @@ def wait_part(thread: Thread, anchors: Mapping[int, str]) -> str:
     return what if anchor is None else f"{what} <a href=\"#{anchor}\">its stack</a>"
 
 
-def stack_section(stack: Stack, anchor: str, style: Style, anchors: Mapping[int, str]) -> str:
+def stack_section(stack: Stack, anchor: str, style: Style, anchors: Mapping[int, str], merged: Optional[NativeStack] = None) -> str:
     """The threads of one stack, and its frames."""
     one = stack.one
     if len(stack.threads) == 1:
@@ -95,7 +112,7 @@ def stack_section(stack: Stack, anchor: str, style: Style, anchors: Mapping[int,
         title = text(titles_of(stack))
         names = ", ".join(f"{text(it.label)} {name_of(it)}".rstrip() for it in stack.threads)
         rest = f"<details><summary>all of them</summary><p>{names}</p></details>\n"
-    items = "\n".join(frame_items(one, style))
+    items = "\n".join(frame_items(one, style, merged))
     frames = f"<ol>\n{items}\n</ol>" if items else "<p>no frames</p>"
     return f"<section id=\"{anchor}\">\n<h3>{title}</h3>\n{rest}{frames}\n</section>"
 
@@ -117,7 +134,8 @@ def stacks_part(report: Report, front: str, style: Style) -> str:
         stacks = stacks_of(it.threads, not style.shows_all)
         anchors = {thread.number: f"{front}{count + at}" for at, stack in enumerate(stacks) for thread in stack.threads}
         for stack in stacks:
-            parts.append(stack_section(stack, f"{front}{count}", style, anchors))
+            merged = stack_under(report, stack.one) if len(stack.threads) == 1 else None
+            parts.append(stack_section(stack, f"{front}{count}", style, anchors, merged))
             count += 1
     if report.has_more:
         parts.append("<p class=\"end\">... more than 16 interpreters</p>")

@@ -5,12 +5,13 @@ It has what the program told: no frame is added, dropped or moved. Equal stacks 
 what is left out has its number. Of many threads all but the first stacks and what is asked for is at most LINES long.
 """
 
-from typing import Callable, Dict, Iterator, List, NamedTuple, Optional, Sequence, Set, Tuple
+from typing import Callable, Dict, Iterator, List, NamedTuple, Optional, Sequence, Set, Tuple, Union
 
-from pystacks_tool.model import Frame, Interpreter, Local, Report, Stack, Thread, stacks_of, whole_or_cut
+from pystacks_tool.model import Frame, Interpreter, Local, NativeFrame, NativeStack, Report, Stack, Thread, stacks_of, whole_or_cut
 from pystacks_tool.show.escape import as_function, as_name, in_line, signal_name, with_decimals
 from pystacks_tool.show.folds import Fold, Item, folded
-from pystacks_tool.show.native import lines_under, native_lines, where_line
+from pystacks_tool.show.merged import Gap, row_text, rows_of, runs_of, stack_under
+from pystacks_tool.show.native import end_lines, frame_line, lines_under, native_lines, where_line
 from pystacks_tool.show.sources import Sources
 from pystacks_tool.show.tasks import others_of, summary_of, task_blocks
 from pystacks_tool.ask.exceptions import summary_lines
@@ -51,6 +52,8 @@ class Style(NamedTuple):
     """Whether each frame has its line."""
     width: Optional[int] = None
     """How many characters a line may have, where paths are shortened."""
+    shows_hidden: bool = False
+    """Whether the interpreter's own native frames are shown between Python's."""
 
     def paint(self, text: str, colour: str) -> str:
         """A text in a colour, where there are colours."""
@@ -260,9 +263,35 @@ def head_lines(report: Report, style: Style, _: int) -> Iterator[str]:
     yield from [*lines, ""] if lines else []
 
 
-def natives_of(report: Report, thread: Thread) -> Iterator[str]:
-    """The native frames of a thread, below its own: of many threads they stand apart."""
-    return iter(()) if is_many(report) else lines_under(report, thread)
+def row_line(row: Union[NativeFrame, Gap, str], style: Style) -> str:
+    """The line of a native frame, of a gap, or of a mark."""
+    if isinstance(row, NativeFrame):
+        return style.paint(f"{frame_line(row)} [C]", DIM)
+    return f"    {row_text(row)}" if isinstance(row, Gap) else style.paint(f"    {row_text(row)}", RED)
+
+
+def merged_lines(thread: Thread, stack: NativeStack, style: Style) -> Iterator[str]:
+    """The Python frames of a thread and its native ones in one stack, and how both end."""
+    for frames, row in runs_of(rows_of(thread, stack, style.shows_hidden)):
+        yield from (line for lines, _ in items_lines(frames, style) for line in lines)
+        if row is not None:
+            yield row_line(row, style)
+    yield from end_lines(stack)
+    if thread.end:
+        yield style.paint(f"    ... {thread.end}", RED)
+    yield from thread.exceptions
+
+
+def frames_lines(report: Report, thread: Thread, style: Style, is_short: bool = False) -> Iterator[str]:
+    """The frames of a thread, with its native ones where they are asked for: in one stack, or below its own. Of many threads the native ones
+    stand apart."""
+    stack = None if is_many(report) else stack_under(report, thread)
+    if stack is not None:
+        yield from merged_lines(thread, stack, style)
+        return
+    yield from newest_lines(thread, style) if is_short else stack_lines(thread, style)
+    if not is_many(report):
+        yield from lines_under(report, thread)
 
 
 def crashed_lines(report: Report, style: Style, _: int) -> Iterator[str]:
@@ -275,8 +304,7 @@ def crashed_lines(report: Report, style: Style, _: int) -> Iterator[str]:
             yield from fault_lines(one, style)
         for it in found:
             yield title_of(it, style)
-            yield from stack_lines(it, style)
-            yield from natives_of(report, it)
+            yield from frames_lines(report, it, style)
     if is_many(report) and any(it.is_crashed for it in report.threads):
         yield ""
 
@@ -335,9 +363,8 @@ def blocks_of(place: int, one: Interpreter, is_short: bool, report: Report, styl
     empty = [] if is_each else [it for it in threads if it.is_empty]
     for stack in stacks_of([it for it in threads if is_each or not it.is_empty], is_many(report) and not style.shows_all):
         thread, count = stack.one, len(stack.threads)
-        lines = newest_lines(thread, style) if is_short else stack_lines(thread, style)
-        own = natives_of(report, thread)
-        yield Block(place, [titles_of(stack) if count > 1 else title_of(thread, style), *lines, *own], count, True, bool(thread.marks))
+        lines = frames_lines(report, thread, style, is_short)
+        yield Block(place, [titles_of(stack) if count > 1 else title_of(thread, style), *lines], count, True, bool(thread.marks))
     if empty:
         yield Block(place, [empty_line(empty)], len(empty), False)
 

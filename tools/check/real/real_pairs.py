@@ -1,0 +1,155 @@
+#!/usr/bin/env python3
+"""Asks which native frame of real Pythons ran which Python frames, and compares it with what called what.
+
+    tools/check/real/real_pairs.py --salvage crates/pysalvage/out/pysalvage [PYTHON..]
+
+For each Python of 3.6 on that is installed: processes die in a C function below Python functions that C called (by ctypes, in a key
+of a sort, twenty times one below the other), in a `__del__` that runs as a Python function returns to C, where the C stack
+overflows between them, and in a sub-interpreter that another thread made. In the one stack of the thread that died each C function of
+the child stands above the Python function that called it, and below the one that it called; each frame stands once and in
+its order; up to 3.10 both are paired by their order, or not at all where a sub-interpreter's calls are among them, and from 3.11 on by
+addresses. The status is 0 exactly where nothing that was tried failed.
+"""
+
+import argparse
+import json
+import shutil
+import subprocess
+import sys
+import tempfile
+from pathlib import Path
+from typing import Callable, List, Sequence, Tuple
+
+from rooms import ROOT  # (first: it makes the other rooms known)
+
+from child_cores import Failure, Skip, core_names, ended
+from derive_layout import DeriveError, build_of
+from each_python import tell_each
+from find_pythons import pythons
+from real_core import ran
+from real_native import image_words
+from real_salvage import Tree
+from section_text import check_paired
+
+HERE = Path(__file__).parent
+
+RECORDS = ROOT / "layouts" / "records-x86_64.toml"
+
+WAYS = ("recursion", "overflow", "leaves", "sort", "enters")
+
+NATIVE = ("crash", "call_back")
+"""The child's C functions."""
+
+PYTHON = ("recurses", "overflows", "leaves", "within_sort", "enters", "inner", "__del__", "ends", "<lambda>")
+"""Its Python functions."""
+
+WANTED = {
+    "recursion": ["crash", *(["recurses", "<lambda>", "call_back"] * 20), "recurses", "ends"],
+    "leaves": ["crash", "__del__", "call_back", "ends"],
+    "sort": ["crash", "<lambda>", "within_sort", "call_back", "ends"],
+}
+"""What stands in the stack of the thread that died, of the child's functions, the newest first."""
+
+
+def told(program: Path, core: Path, layouts: Path) -> Tree:
+    """What is told of a core."""
+    run = ran([program, core, "--layouts", layouts, "--records", RECORDS, "-j", "--native", "-n", "4096", *image_words(core)])
+    if run.status != 0:
+        raise Failure(f"status {run.status}: {run.err}")
+    return json.loads(run.out)
+
+
+def own_names(tree: Tree) -> Tuple[str, List[str]]:
+    """By what both are paired in the thread that got the signal, and the child's functions in its stack."""
+    at = next(at for at, it in enumerate(tree["native"]) if it["crashed"])
+    native, one = tree["native"][at], tree["stacks"][at]
+    if one is None:
+        raise Failure("the thread that died is none of Python's")
+    thread = next(it for each in tree["interpreters"] for it in each["threads"] if it["address"] == one["thread"])
+    frames = [*thread["frames"]["first"], *thread["frames"]["last"]]
+    natives = [frame for part in (native["stack"], native["guessed"]) if part for frame in (*part["frames"], *part["last"])]
+    names: List[str] = []
+    if one["pairing"] == "apart":
+        return "apart", names
+    for it in one["items"]:
+        if it["kind"] not in ("python", "native"):
+            raise Failure(f"the mark {it['kind']!r} by {one['pairing']}")
+        name = frames[it["frame"]]["name"] if it["kind"] == "python" else natives[it["frame"]]["function"]
+        if name in (PYTHON if it["kind"] == "python" else NATIVE):
+            names.append(name)
+            if it.get("hidden"):
+                raise Failure(f"{name} is hidden")
+    return one["pairing"], names
+
+
+def check_overflow(names: Sequence[str]) -> None:
+    """Fails where a function doesn't stand below what it called: each Python function but the newest called C, and so may that one."""
+    depth = names.count("overflows")
+    rest = names[1:] if names[:1] == ["call_back"] else names
+    if depth < 2 or list(rest) != [*(["overflows", "call_back"] * depth)[:-1], "ends"]:
+        raise Failure(f"{depth} functions: {names[:6]} .. {names[-6:]}")
+
+
+def tried_way(program: Path, python: str, names: str, room: Path, layouts: Path, library: Path, way: str, wanted: str) -> int:
+    """How many frames of the child stand where they are to, where a process dies in one way."""
+    room.mkdir()
+    child = ended([python, str(HERE / "pairs_child.py"), way, str(library)], room)
+    if child.status >= 0:
+        raise Failure(f"a child doesn't die by {way}: {child.said[-200:]}")
+    core = child.core(names)
+    tree = told(program, core, layouts)
+    check_paired(tree)
+    pairing, own = own_names(tree)
+    if pairing != ("apart" if way == "enters" and wanted == "order" else wanted):
+        raise Failure(f"{way}: paired by {pairing}")
+    if way == "enters":
+        # (which of the thread's two chains stands there its id alone tells)
+        if pairing != "apart" and own not in (["enters", "ends"], ["inner"]):
+            raise Failure(f"{way}: {own}")
+    elif way == "overflow":
+        check_overflow(own)
+    elif own != WANTED[way]:
+        raise Failure(f"{way}: {own}")
+    core.unlink()
+    return len(own)
+
+
+def tried_with(program: Path, library: Path) -> Callable[[str], str]:
+    """What tries one Python."""
+
+    def tried(python: str) -> str:
+        build = build_of(python)
+        if build.version < (3, 6):
+            raise Skip("pairs_child.py is none of its programs")
+        names = core_names()
+        wanted = "order" if build.version < (3, 11) else "address"
+        with tempfile.TemporaryDirectory(prefix="real-pairs-") as name:
+            layouts = ROOT / "layouts" / f"cpython-{build.machine}.toml"
+            ways = [it for it in WAYS if it != "enters" or build.version >= (3, 8)]
+            counts = [tried_way(program, python, names, Path(name) / way, layouts, library, way, wanted) for way in ways]
+        return f"{build.dotted}: {sum(counts)} frames where they are to stand, in {len(ways)} ways, by {wanted}"
+
+    return tried
+
+
+def main() -> int:
+    """The check."""
+    parser = argparse.ArgumentParser(description=__doc__.splitlines()[0])
+    parser.add_argument("--salvage", type=Path, required=True, help="the built program `pysalvage`")
+    parser.add_argument("python", nargs="*", help="the interpreters (default: all that are found)")
+    words = parser.parse_args()
+    if shutil.which("gcc") is None:
+        print("real_pairs: skipped: there is no gcc")
+        return 0
+    with tempfile.TemporaryDirectory(prefix="pairs-child-") as name:
+        library = Path(name) / "native_child.so"
+        built = subprocess.run(["gcc", "-O2", "-shared", "-fPIC", "-o", str(library), str(HERE / "native_child.c")])
+        if built.returncode != 0:
+            print("real_pairs: skipped: gcc doesn't build native_child.c")
+            return 0
+        failed = tell_each("real_pairs", tried_with(words.salvage, library), words.python or pythons(), (Skip, DeriveError))
+    return 1 if failed else 0
+
+
+if __name__ == "__main__":
+    sys.exit(main())
