@@ -82,6 +82,20 @@ class Merged(unittest.TestCase):
         shown = lines(paired(native(0), native(1), python(0), python(1)), stack=stack, guessed=guessed)
         self.assertEqual(shown[2:5], ["    checksum+0x46 (_native.so) <guess> [C]", *MERGED[3:]])
 
+    def test_crashed_of_many(self):
+        """Of many threads the one that got the signal has both in one stack, and the others don't."""
+        tree = paired(native(0), native(1), python(0), python(1), native(2, True), native(3, True))
+        others = [paired(python(0), python(1), thread=hex(0x2000 + it)) for it in range(9)]
+        threads = [Thread(7, FRAMES, 107, is_crashed=True, address="0x1000"),
+                   *(Thread(10 + it, FRAMES, 200 + it, address=hex(0x2000 + it)) for it in range(9))]
+        natives = [native_thread(107, NATIVE, 7, crashed=True), *(native_thread(200 + it, NATIVE, 10 + it) for it in range(9))]
+        stacks = stacks_of(natives, [tree, *others], {})
+        report = Report((Interpreter(tuple(threads), 0x10),), "3.11.7", 6, is_salvaged=True, core="core", native=stacks, shows_native=True)
+        shown = list(report_lines(report, Style()))
+        at = shown.index("Thread 107 (crashed)")
+        self.assertEqual(shown[at + 1:at + 5], MERGED[1:])
+        self.assertEqual(sum(it.endswith("[C]") for it in shown), 2)
+
     def test_other_forms(self):
         """On a page, and as flame graph tools read it."""
         stacks = stacks_of([native_thread(107, NATIVE, 7)], [paired(native(0), native(1), python(0), python(1), native(2, True), native(3, True))], {})

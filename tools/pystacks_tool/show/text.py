@@ -284,8 +284,8 @@ def merged_lines(thread: Thread, stack: NativeStack, style: Style) -> Iterator[s
 
 def frames_lines(report: Report, thread: Thread, style: Style, is_short: bool = False) -> Iterator[str]:
     """The frames of a thread, with its native ones where they are asked for: in one stack, or below its own. Of many threads the native ones
-    stand apart."""
-    stack = None if is_many(report) else stack_under(report, thread)
+    stand apart, but for one that got the signal."""
+    stack = None if is_many(report) and not thread.is_crashed else stack_under(report, thread)
     if stack is not None:
         yield from merged_lines(thread, stack, style)
         return
