@@ -16,8 +16,8 @@ use Rattle.py_waits.proofs.Plain.{no_float as all_waits}
 use Rattle.py_waits.specs.declared.told.InterpreterWaits.{InterpreterWaits}
 use Rattle.paired_stacks.proofs.Plain.{no_float as all_paired}
 use Rattle.paired_stacks.specs.declared.stack.PairedStack.{PairedStack}
-use Rattle.memory_sections.specs.Values.{paired_tree_if}
-use Rattle.memory_sections.specs.Values.{exceptions_tree_if, names_tree_if, native_tree_if, tasks_tree_if, waits_tree_if}
+use Rattle.memory_sections.specs.Values.{exceptions_tree_if, names_tree_if, native_tree_if, paired_tree_if}
+use Rattle.memory_sections.specs.Values.{tasks_tree_if, waits_tree_if}
 
 pub names : (told : Option (Vec InterpreterNames Global)) → has_float (names_tree_if told) ≡ false
 names None = refl

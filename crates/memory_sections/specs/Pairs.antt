@@ -40,7 +40,8 @@ pub record ArePairs (bytes : List ℕ) (k : Known) (v : Version) (l : Layout) (r
     (is : List SalvagedInterpreter) (natives : NativeStacks) (told : Vec (Option PairedStack) Global) : Type 0 where
   pub starts : List (Option ℕ)
   pub stand : AreStarts bytes starts
-  pub are : ArePaired (run_end v r.frames) l m (own_code k) (walked_threads is) starts (stacks_shown natives).threads told.items
+  pub are : ArePaired (run_end v r.frames) l m (own_code k) (walked_threads is) starts
+      (stacks_shown natives).threads told.items
 
 -- they are told where native stacks are, and nothing else
 abbrev pub PairsAre : List ℕ → Known → Version → Layout → Records → Memory → List SalvagedInterpreter

@@ -102,8 +102,8 @@ NativeAre asked strict bytes images m is told =
 -- ---- all of them
 
 -- What is told of a process whose core has these bytes and was opened with these images, by which this is known of it,
--- of this version of Python, by a layout and the records of that version, over this memory, and of whose interpreters these
--- are shown; values of locals by so many `-l`.
+-- of this version of Python, by a layout and the records of that version, over this memory, and of whose interpreters
+-- these are shown; values of locals by so many `-l`.
 pub record AreMemoryTold (asked : Sections) (times : ℕ) (bytes : List ℕ) (images : Pushed) (k : Known) (v : Version)
     (l : Layout) (r : Records) (m : Memory) (is : List SalvagedInterpreter) (told : MemoryTold) : Type 0 where
   pub names : NamesAre asked.names l (rule_of l r) m is told.names

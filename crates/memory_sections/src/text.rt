@@ -217,8 +217,8 @@ fn push_native(
 /// 0x7F..: NAME`, and of each whose name can't be read why; of each interpreter of which none can be read why, and how
 /// many slots may have a thread whose id is not known; the tasks of each interpreter
 /// (`task_texts::push_tasks`); the exceptions of the threads of each (`exception_texts::push_exceptions`); what each
-/// thread waits for (`py_waits::push_waits`); the native stacks (`native_stacks::push_native_stacks`), of each the first and the last
-/// `limit` frames. The one error is want of memory.
+/// thread waits for (`py_waits::push_waits`); the native stacks (`native_stacks::push_native_stacks`), of each the
+/// first and the last `limit` frames. The one error is want of memory.
 pub fn push_memory(
     alloc: Global,
     text: &mut String,

@@ -1,5 +1,6 @@
 -- The stacks of the threads so far, and that the rest follows.
-use Rattle.std.proofs.Common.{◌≡◌, ◌≤◌, ◌<◌, ◌+◌, ℕ, drop, get_or, length, List, [], ◌∷◌, ◌++◌, Option, refl, sym, ap, ◌∙◌, subst, append_assoc, append-nil}
+use Rattle.std.proofs.Common.{◌≡◌, ◌≤◌, ◌<◌, ◌+◌, ℕ, drop, get_or, length, List, [], ◌∷◌, ◌++◌, Option, refl}
+use Rattle.std.proofs.Common.{sym, ap, ◌∙◌, subst, append_assoc, append-nil}
 use Rattle.std.proofs.lemmas.List.{drop_all}
 use Rattle.process_memory.specs.Memory.{Memory}
 use Rattle.native_frames.specs.declared.stacks.NativeFrame.{NativeFrame}
@@ -22,7 +23,8 @@ part_more before after part rest whole total step inv pushed =
 -- ---- the parts of frames
 
 pub parts_next : (own : OwnCode) (from : Option ℕ) (fs : List NativeFrame) (i : ℕ) (f : NativeFrame) → i < length fs
-    → f ≡ get_or fs i f → parts_from own from (drop i fs) ≡ part_of own from f ∷ parts_from own f.frame.cfa (drop (i + 1) fs)
+    → f ≡ get_or fs i f
+    → parts_from own from (drop i fs) ≡ part_of own from f ∷ parts_from own f.frame.cfa (drop (i + 1) fs)
 unfolding parts_from
 parts_next own from fs i f within is = ap (parts_from own from) (next fs i f f within is)
 

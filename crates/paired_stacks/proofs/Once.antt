@@ -1,5 +1,6 @@
 -- There is one stack of both for each thread.
-use Rattle.std.proofs.Common.{◌≡◌, ℕ, Bool, true, false, List, [], ◌∷◌, length, map, refl, sym, ap, ◌∙◌, Option, Some, None}
+use Rattle.std.proofs.Common.{◌≡◌, ℕ, Bool, true, false, List, [], ◌∷◌, length, map, refl, sym, ap}
+use Rattle.std.proofs.Common.{◌∙◌, Option, Some, None}
 use Rattle.std.specs.Prelude.{Result, Ok, Err, IfOk, Vec}
 use Rattle.std.specs.Global.{Global}
 use Rattle.process_memory.specs.Memory.{Memory}
@@ -14,8 +15,8 @@ use Rattle.native_stacks.specs.Threads.{NativeShown}
 use Rattle.py_runs.specs.declared.cut.Run.{Run}
 use Rattle.py_runs.specs.declared.run_rule.RunEnd.{RunEnd}
 use Rattle.py_runs.specs.declared.run_rule.RunEnd.TheVariants.{Each, Entry, Shim}
-use Rattle.paired_stacks.specs.Laid.{IsApart, IsByAddress, IsByOrder, IsLaid, IsLaidIf, IsLaidWhere, IsMerged, IsOrdered}
-use Rattle.paired_stacks.specs.Laid.{border_of}
+use Rattle.paired_stacks.specs.Laid.{IsApart, IsByAddress, IsByOrder, IsLaid, IsLaidIf, IsLaidWhere, IsMerged}
+use Rattle.paired_stacks.specs.Laid.{IsOrdered, border_of}
 use Rattle.paired_stacks.specs.Stacks.{ArePaired, IsPairedBy, IsPairedIf, IsPairedStack, first_start, other_starts}
 use Rattle.paired_stacks.specs.Stacks.{PairedSeen, seen_if, stack_seen, walked_by}
 use Rattle.paired_stacks.specs.declared.code.OwnCode.{OwnCode}
@@ -45,7 +46,8 @@ ordered_same (Some takes) natives sizes frames p q xs ys a b = merged_same Order
 address_same : (parts : List Part) (sizes : List ℕ) (runs : List Run) (p q : Pairing) (xs ys : List Item)
     → IsByAddress parts sizes runs p xs → IsByAddress parts sizes runs q ys → AreSame p q xs ys
 address_same parts sizes runs p q xs ys a b =
-    let same : a.takes ≡ b.takes = paired_only (lies_by parts (map border_of runs)) (length parts) a.takes b.takes a.paired b.paired in
+    let same : a.takes ≡ b.takes
+    = paired_only (lies_by parts (map border_of runs)) (length parts) a.takes b.takes a.paired b.paired in
     merged_same Address sizes a.takes b.takes p q xs ys same a.merged b.merged
 
 laid_same : (e : RunEnd) (parts : List Part) (steps : List Bool) (sizes : List ℕ) (runs : List Run) (frames : List ℕ)
@@ -97,13 +99,15 @@ module _ (l : Layout) (m : Memory) where
   all_same e own threads starts (t ∷ ts) [] ys a b = absurd a
   all_same e own threads starts (t ∷ ts) (x ∷ xs) [] a b = absurd b
   all_same e own threads starts (t ∷ ts) (x ∷ xs) (y ∷ ys) a b =
-      let first : seen_if x ≡ seen_if y = if_same e own (first_start starts) t (walked_by threads t.whose) x y a.0 b.0 in
+      let first : seen_if x ≡ seen_if y
+      = if_same e own (first_start starts) t (walked_by threads t.whose) x y a.0 b.0 in
       let others : map seen_if xs ≡ map seen_if ys = all_same e own threads (other_starts starts) ts xs ys a.1 b.1 in
       λ i. first i ∷ others i
 
   pub only_stacks : {E : Type 0} (e : Option RunEnd) (own : OwnCode) (threads : List Walked) (starts : List (Option ℕ))
       (ts : List NativeShown) (r : Result (Vec (Option PairedStack) Global) E) (other : List (Option PairedStack))
-      → IfOk r (λ stacks. ArePaired e l m own threads starts ts stacks.items) → ArePaired e l m own threads starts ts other
+      → IfOk r (λ stacks. ArePaired e l m own threads starts ts stacks.items)
+      → ArePaired e l m own threads starts ts other
       → IfOk r (λ stacks. map seen_if stacks.items ≡ map seen_if other)
   only_stacks e own threads starts ts (Ok stacks) other a b = all_same e own threads starts ts stacks.items other a b
   only_stacks e own threads starts ts (Err error) other a b = tt

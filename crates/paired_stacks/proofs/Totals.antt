@@ -20,4 +20,5 @@ too_many given total left item behind is more = ne_eqb given total (λ same. abs
 -- nothing is left exactly where the items have the whole number
 pub none_left : (given total left : ℕ) → given + left ≡ total → nat_eq left 0 ≡ nat_eq given total
 none_left given total zero is = sym (eq-eqb given total (omega (arith, is)))
-none_left given total (suc left) is = eqb-suc-zero left ∙ sym (ne_eqb given total (λ same. absurd (omega (arith, is, same))))
+none_left given total (suc left) is = eqb-suc-zero left
+    ∙ sym (ne_eqb given total (λ same. absurd (omega (arith, is, same))))

@@ -1,5 +1,5 @@
 -- The Python frames of a thread and its native ones in one stack: by the addresses of the borders of its runs from 3.11
--- on, and up to 3.10 by the order of both, where the numbers allow it (CPython's Python/ceval.c, as native_pairs has it).
+-- on, and up to 3.10 by the order of both, where the numbers allow it (CPython's Python/ceval.c, as in native_pairs).
 use Rattle.std.specs.Prelude.{◌≡◌, ℕ, ◌+◌, nat_eq, Bool, true, false, List, length, map, Option, Some, None}
 use Rattle.std.specs.Prelude.{get_or}
 use Rattle.std.specs.List.{sum}
@@ -29,7 +29,8 @@ pub record IsApart (natives : ℕ) (frames : List ℕ) (pairing : Pairing) (item
   pub by : pairing ≡ Apart
   pub are : items ≡ apart_items natives frames
 
-pub record IsMerged (told : Pairing) (takes : List Bool) (sizes : List ℕ) (pairing : Pairing) (items : List Item) : Type 0 where
+pub record IsMerged (told : Pairing) (takes : List Bool) (sizes : List ℕ) (pairing : Pairing) (items : List Item)
+    : Type 0 where
   pub by : pairing ≡ told
   pub are : items ≡ merged_items takes sizes
 

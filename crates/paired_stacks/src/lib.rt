@@ -1,5 +1,5 @@
-//! Which native frame of each thread runs which of its Python frames: one stack of both, by the core and the files that it
-//! mapped alone.
+//! Which native frame of each thread runs which of its Python frames: one stack of both, by the core and the files that
+//! it mapped alone.
 //!
 //! What one call of the interpreter's loop executes is a run (`py_runs`), and that call is a native frame. From 3.11 on
 //! the border of a run lies in the part of the stack of that frame; up to 3.10 each call executes one frame, and both

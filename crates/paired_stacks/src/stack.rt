@@ -122,8 +122,8 @@ fn pair_if<P: ProcessMemory>(
     thread: &NativeThread,
     threads: &[Walked],
 ) -> Result<Option<PairedStack>, AllocError>
-    ensures { Reading most_of_each (P.seen process.old) (P.seen process.new) (λ m. IfOk result (IsPairedIf end layout.now m
-        own start (thread_shown thread.now) (walked_by threads.now thread.now.whose))) }
+    ensures { Reading most_of_each (P.seen process.old) (P.seen process.new) (λ m. IfOk result
+        (IsPairedIf end layout.now m own start (thread_shown thread.now) (walked_by threads.now thread.now.whose))) }
 {
     match walked_by(threads, thread.whose) {
         Some(walked) => {
@@ -191,8 +191,8 @@ pub fn pair_stacks<P: ProcessMemory>(
     natives: &[NativeThread],
     interpreters: &[SalvagedInterpreter],
 ) -> Result<Vec<Option<PairedStack>>, AllocError>
-    ensures right { Reading (most_of_each * length natives.now) (P.seen process.old) (P.seen process.new) (λ m. IfOk result
-        (λ stacks. ArePaired end layout.now m own (walked_threads interpreters.now) starts.now
+    ensures right { Reading (most_of_each * length natives.now) (P.seen process.old) (P.seen process.new) (λ m.
+        IfOk result (λ stacks. ArePaired end layout.now m own (walked_threads interpreters.now) starts.now
         (map thread_shown natives.now) stacks.items)) }
     ensures only { Reading (most_of_each * length natives.now) (P.seen process.old) (P.seen process.new) (λ m.
         (other : List (Option Told)) → ArePaired end layout.now m own (walked_threads interpreters.now) starts.now

@@ -43,5 +43,6 @@ last_placed limit left = λ i. object (placed (values_left_out left.memory.value
     (boolean left.salvaged.more) (names_tree_if left.memory.names) (native_tree_if limit left.memory.native)
     (process_tree left.process) (section_tree threads_tree (registers_shown left.told.registers))
     (ended_tree left.salvaged.looked) (signal_tree left.signal) (section_tree info_tree left.told.signal)
-    (paired_tree_if left.memory.stacks) (tasks_tree_if left.memory.tasks) (string (told_version left.named left.version)) (boolean left.named)
+    (paired_tree_if left.memory.stacks) (tasks_tree_if left.memory.tasks)
+    (string (told_version left.named left.version)) (boolean left.named)
     (waits_tree_if left.memory.waits) i)

@@ -107,6 +107,7 @@ no_float limit left plain = λ i. exceptions left.memory.exceptions i
     || (check_section (check_of left.check) i || (missing_section (missing_shown left.told.missing) i
     || (false || (names left.memory.names i || (native limit left.memory.native i || (process left.process
     i || (threads_section (registers_shown left.told.registers) i || (ended left.salvaged.looked i
-    || (signal left.signal i || (info_section left.told.signal i || (paired left.memory.stacks i || (tasks left.memory.tasks i
+    || (signal left.signal i || (info_section left.told.signal i || (paired left.memory.stacks i
+    || (tasks left.memory.tasks i
     || counted (values_left_out left.memory.values) (told_version left.named left.version) left.named
     left.memory.waits i)))))))))))))

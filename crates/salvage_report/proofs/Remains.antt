@@ -61,7 +61,8 @@ module _ (s : Salvage) (ts : List RecordTable) (p : Process) (crash : Option Cra
     (sections : Told) (are : AreTold s.sections p.dump.core p.notes.process salvaged.interpreters.items sections)
     (check : Option LayoutCheck)
     (checks : CheckIs s.sections.check_layout p.dump.core (process_checked p salvaged.interpreters.items) check)
-    (memory : MemoryTold) (reads : AreMemoryTold s.sections s.locals p.dump.core images (known_of p.info) p.version p.layout
+    (memory : MemoryTold) (reads : AreMemoryTold s.sections s.locals p.dump.core images (known_of p.info)
+    p.version p.layout
     (records_of ts p.version) (byte_at (regions_of p.dump)) salvaged.interpreters.items memory)
     (values : ShownValues)
     (shows : AreShown s.json memory.values (shown_addresses salvaged.interpreters.items) values)

@@ -98,7 +98,8 @@ fn memory_of(
 ) -> Result<MemoryTold, AllocError>
     requires sound { IsSound process.now.layout }
     ensures { IfOk result (AreMemoryTold asked times process.now.dump.core images.now (known_of process.now.info)
-        process.now.version process.now.layout (records_of tables.now process.now.version) (byte_at (regions_of process.now.dump))
+        process.now.version process.now.layout (records_of tables.now process.now.version)
+        (byte_at (regions_of process.now.dump))
         interpreters.now) }
 {
     let records = tables.records_of(&process.version);

@@ -24,6 +24,6 @@ loop-thread-preserved c =
 pub returns : goal.returns
 returns c =
     let m = byte_at (regions_of c.args.process.now.dump) in
-    subst (λ xs. EachTold (IsWaitOf c.args.standings.now c.args.process.now.layout m c.args.found.places c.args.found.gil) xs
-    c.loop-thread.told.items)
+    subst (λ xs. EachTold (IsWaitOf c.args.standings.now c.args.process.now.layout m c.args.found.places
+    c.args.found.gil) xs c.loop-thread.told.items)
     (take_all c.loop-thread.thread-index c.args.threads.now c.loop-thread-test.false) c.loop-thread.invariant

@@ -28,4 +28,5 @@ returns c =
     let m = byte_at (regions_of c.args.process.now.dump) in
     subst (λ xs. EachTold (AreWaitsOf (known_of c.args.process.now.info) c.args.process.now.layout
     c.args.records.now m c.args.standings.now) xs c.loop-interpreter.told.items)
-    (take_all c.loop-interpreter.interpreter-index c.args.interpreters.now c.loop-interpreter-test.false) c.loop-interpreter.invariant
+    (take_all c.loop-interpreter.interpreter-index c.args.interpreters.now c.loop-interpreter-test.false)
+    c.loop-interpreter.invariant

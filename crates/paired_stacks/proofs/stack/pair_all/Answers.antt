@@ -32,7 +32,8 @@ loop-native-preserved g c =
     let x = c.native-item.result in
     reading_gives (most_of_each * (i + 1)) _ (reading_then _ c.loop-native.invariant c.in_ok-stack.ensures
     (λ m far here. far_next c.args.end c.args.layout.now c.args.own c.args.threads.now m c.args.starts.now
-    c.loop-native.left.now (map thread_shown natives) (map thread_shown (drop i natives)) (map thread_shown (drop (i + 1) natives))
+    c.loop-native.left.now (map thread_shown natives) (map thread_shown (drop i natives))
+    (map thread_shown (drop (i + 1) natives))
     (thread_shown x) c.in_ok-stack.stack c.loop-native.stacks.items _
     (ap (map thread_shown) (next natives i x x c.loop-native-test.true c.native-item.is))
     (rw c.next_start-start.ensures.start at here) c.in_ok-push.ensures.items far))

@@ -10,4 +10,5 @@ pub returns : goal.returns
 returns c =
     view-Array c.loop-item.values
     ∙ ap (λ ds. array (items_of ds)) (c.loop-item.invariant
-    ∙ ap (λ xs. map (λ x. item_tree c.args.hidden.now x) xs) (take_all c.loop-item.item-index c.args.items.now c.loop-item-test.false))
+    ∙ ap (λ xs. map (λ x. item_tree c.args.hidden.now x) xs)
+    (take_all c.loop-item.item-index c.args.items.now c.loop-item-test.false))

@@ -11,7 +11,8 @@ pub returns-clause-value : goal.returns-clause-value
 returns-clause-value c =
     view-Array c.loop-stack.values
     ∙ ap (λ ds. array (items_of ds)) (c.loop-stack.invariant
-    ∙ ap (λ xs. map (λ x. stack_tree_if x) xs) (take_all c.loop-stack.stack-index c.args.stacks.now c.loop-stack-test.false))
+    ∙ ap (λ xs. map (λ x. stack_tree_if x) xs)
+    (take_all c.loop-stack.stack-index c.args.stacks.now c.loop-stack-test.false))
 
 pub returns-clause-no_float : goal.returns-clause-no_float
 returns-clause-no_float c = no_float c.args.stacks.now

@@ -12,7 +12,8 @@ use Rattle.salvage_report.proofs.Agreement.{cause_own}
 use Rattle.salvage_report.proofs.Ends.{four_rose, run_complete, run_only, run_status}
 use Rattle.salvage_report.proofs.TellingRefused.{may_tell, outcome_after, told_at_one, untold_else}
 use Rattle.salvage_report.proofs.Headline.{salvaged_of_run, says_layout, says_names, says_native, says_registers}
-use Rattle.salvage_report.proofs.Headline.{says_exceptions, says_signal, says_stacks, says_tasks, says_values, says_waits}
+use Rattle.salvage_report.proofs.Headline.{says_exceptions, says_signal, says_stacks, says_tasks}
+use Rattle.salvage_report.proofs.Headline.{says_values, says_waits}
 use Rattle.salvage_report.proofs.Few.{asked_few}
 use Rattle.salvage_report.proofs.command.run.Goals as goal
 
