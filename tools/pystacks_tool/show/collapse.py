@@ -11,7 +11,7 @@ from typing import Counter, Iterator, List, Mapping, Optional, Sequence, Tuple
 from pystacks_tool.model import Frame, NativeFrame, NativeStack, Report, Thread
 from pystacks_tool.show.escape import in_place
 from pystacks_tool.show.folds import Fold, folded
-from pystacks_tool.show.merged import row_text, rows_of, stack_under
+from pystacks_tool.show.merged import merged_stacks, row_text, rows_of
 from pystacks_tool.show.native import place_of
 
 def label(frame: Frame) -> str:
@@ -58,7 +58,8 @@ def places(thread: Thread, is_folded: bool = False, stack: Optional[NativeStack]
 
 def counts_of(threads: Sequence[Thread], report: Optional[Report] = None) -> Counter[Tuple[str, ...]]:
     """How many threads have each stack, in the order of the first thread of each: of a report with native stacks, with these."""
-    stacks = (places(it, False, stack_under(report, it) if report else None) for it in threads)
+    merged = merged_stacks(report) if report else {}
+    stacks = (places(it, False, merged.get(it.address)) for it in threads)
     return Counter(stack for stack in stacks if stack)
 
 

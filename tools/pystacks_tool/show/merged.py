@@ -1,6 +1,6 @@
 """One stack of a thread's Python frames and its native ones, as the program paired them. A native frame has ` [C]` behind it."""
 
-from typing import Iterator, List, NamedTuple, Optional, Sequence, Tuple, Union
+from typing import Dict, Iterator, List, NamedTuple, Optional, Sequence, Tuple, Union
 
 from pystacks_tool.model import Frame, NativeFrame, NativeStack, Report, Thread
 
@@ -21,11 +21,17 @@ Row = Union[Frame, NativeFrame, Gap, str]
 """What stands in one stack: a frame, a gap, or a mark."""
 
 
+def merged_stacks(report: Report) -> Dict[str, NativeStack]:
+    """The native stacks in which Python's frames stand, where native stacks are shown, by the addresses of the threads' records."""
+    if not report.shows_native:
+        return {}
+    # (the first one of an address counts)
+    return {it.thread: it for it in reversed(report.native) if it.thread and it.pairing in MERGED and not it.guessed_between}
+
+
 def stack_under(report: Report, thread: Thread) -> Optional[NativeStack]:
-    """The native stack in which a thread's frames stand, where native stacks are shown and it is told."""
-    if not report.shows_native or not thread.address:
-        return None
-    return next((it for it in report.native if it.thread == thread.address and it.pairing in MERGED and not it.guessed_between), None)
+    """The native stack in which a thread's frames stand, where that is told."""
+    return merged_stacks(report).get(thread.address)
 
 
 def python_frame(thread: Thread, number: int) -> Optional[Frame]:

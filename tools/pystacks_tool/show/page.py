@@ -13,7 +13,7 @@ from pystacks_tool.model import Interpreter, NativeFrame, NativeStack, Report, S
 from pystacks_tool.show.collapse import places
 from pystacks_tool.show.escape import as_name, signal_name
 from pystacks_tool.show.flame import Flame, counted, flame_of
-from pystacks_tool.show.merged import row_text, rows_of, runs_of, stack_under
+from pystacks_tool.show.merged import merged_stacks, row_text, rows_of, runs_of
 from pystacks_tool.show.native import frame_line, where_line
 from pystacks_tool.show.page_frames import items_of, text
 from pystacks_tool.show.page_parts import SCRIPT, STYLE
@@ -128,13 +128,13 @@ def interpreter_part(it: Interpreter, is_titled: bool) -> str:
 
 def stacks_part(report: Report, front: str, style: Style) -> str:
     """All stacks, each once, with anchors that begin so."""
-    parts, count = [], 0
+    parts, count, merged_of = [], 0, merged_stacks(report)
     for it in report.interpreters:
         parts.append(interpreter_part(it, len(report.interpreters) > 1))
         stacks = stacks_of(it.threads, not style.shows_all)
         anchors = {thread.number: f"{front}{count + at}" for at, stack in enumerate(stacks) for thread in stack.threads}
         for stack in stacks:
-            merged = stack_under(report, stack.one) if len(stack.threads) == 1 else None
+            merged = merged_of.get(stack.one.address) if len(stack.threads) == 1 else None
             parts.append(stack_section(stack, f"{front}{count}", style, anchors, merged))
             count += 1
     if report.has_more:
