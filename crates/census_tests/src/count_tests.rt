@@ -1,0 +1,100 @@
+//! Objects of three classes, and one whose class is not in memory.
+use process_memory::{Part, Piece};
+use py_census::{Census, CountedClass, WordsBefore, count_objects, size_places};
+use py_fields::Layout;
+use std::alloc::{AllocError, Global};
+use std::test::Fail;
+
+/// From the size of its objects to its flags: a class of tuples, which the collector tracks.
+const TUPLES: [u64; 18] = [
+    24, 8, 0, 0, 0, 0, 0, 0, 0, 0, 0, 0, 0, 0, 0, 0, 0, 0x400_4000,
+];
+
+/// The same of a class whose objects have a managed dict.
+const PLAIN: [u64; 18] = [48, 0, 0, 0, 0, 0, 0, 0, 0, 0, 0, 0, 0, 0, 0, 0, 0, 0x4010];
+
+/// From 0x3000 on: tuples of two items and of three, an object of the other class, and one of a class that is not in
+/// memory; each of 32 bytes.
+const OBJECTS: [u64; 16] = [
+    1, 0x1000, 2, 0, 1, 0x1000, 3, 0, 1, 0x2000, 0, 0, 1, 0x5000, 0, 0,
+];
+
+fn piece(alloc: Global, start: u64, words: &[u64]) -> Result<Piece, AllocError> {
+    let mut bytes = Vec::new(alloc);
+    for word in words {
+        bytes.extend_from_slice(&word.to_le_bytes())?;
+    }
+    Ok(Piece { start, bytes })
+}
+
+fn memory(alloc: Global) -> Result<Part, AllocError> {
+    let mut pieces = Vec::new(alloc);
+    pieces.push(piece(alloc, 0x1020, &TUPLES)?)?;
+    pieces.push(piece(alloc, 0x2020, &PLAIN)?)?;
+    pieces.push(piece(alloc, 0x3000, &OBJECTS)?)?;
+    Ok(Part::of(alloc, pieces))
+}
+
+/// The sample, with the flags of classes where builds have them.
+fn layout() -> Layout {
+    let mut layout = Layout::sample();
+    layout.klass.flags = 168;
+    layout
+}
+
+/// What is counted of these by the sizes of 3.12.
+fn counted(alloc: Global, objects: &[u64]) -> Result<Option<Census>, AllocError> {
+    let mut memory = memory(alloc)?;
+    let Some(places) = size_places(3, 12) else {
+        return Ok(None);
+    };
+    let census = count_objects(alloc, &mut memory, &layout(), &places, objects)?;
+    Ok(Some(census))
+}
+
+fn class(class: u64, objects: u64, bytes: u64, unknown: u64) -> CountedClass {
+    CountedClass {
+        class,
+        objects,
+        bytes,
+        unknown,
+    }
+}
+
+#[test]
+fn versions_have_sizes(rt: HostRuntime) -> Result<(), Fail> {
+    match size_places(3, 7) {
+        Some(places) => {
+            assert!(rt; places.head_size == 32 && places.words_before == WordsBefore::Never);
+        }
+        None => assert!(rt; false),
+    }
+    assert!(rt; size_places(3, 14) == None);
+    Ok(())
+}
+
+#[test]
+fn objects_are_counted_by_class(rt: HostRuntime) -> Result<(), Fail> {
+    let objects = [0x9000, 0x3060, 0x3040, 0x3020, 0x3000];
+    let Some(census) = counted(rt.alloc(), &objects)? else {
+        assert!(rt; false);
+        return Ok(());
+    };
+    assert!(rt; census.unreadable == 1);
+    assert!(rt; census.classes.len() == 3);
+    assert!(rt; census.classes[0] == class(0x1000, 2, 120, 0));
+    assert!(rt; census.classes[1] == class(0x2000, 1, 80, 0));
+    assert!(rt; census.classes[2] == class(0x5000, 1, 0, 1));
+    Ok(())
+}
+
+#[test]
+fn of_no_objects_there_is_nothing(rt: HostRuntime) -> Result<(), Fail> {
+    match counted(rt.alloc(), &[])? {
+        Some(census) => {
+            assert!(rt; census.classes.is_empty() && census.unreadable == 0);
+        }
+        None => assert!(rt; false),
+    }
+    Ok(())
+}

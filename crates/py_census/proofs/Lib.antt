@@ -1,0 +1,4 @@
+pub mod Tallying
+pub mod Members
+pub mod Orders
+pub mod Laws

@@ -1,0 +1,4 @@
+pub mod Versions
+pub mod Sizes
+pub mod Censuses
+pub mod Tallies

@@ -1,0 +1,29 @@
+-- Where the sizes of objects stand, by version: `PyVarObject` of Include/object.h and `PyTypeObject` of
+-- Include/cpython/object.h (up to 3.7 both of Include/object.h), `PyGC_Head` of Include/objimpl.h (3.7),
+-- Include/cpython/objimpl.h and Include/internal/pycore_gc.h, and `_PyType_PreHeaderSize` of
+-- Include/internal/pycore_object.h. The numbers are those of machines of 8 byte words.
+use Rattle.std.specs.Prelude.{ℕ, nat_eq, ◌||◌, if◌then◌else◌, Option, Some, None}
+use Rattle.py_census.specs.declared.places.SizePlaces.{SizePlaces}
+use Rattle.py_census.specs.declared.places.WordsBefore.{WordsBefore}
+use Rattle.py_census.specs.declared.places.WordsBefore.TheVariants.{Never, Dict, DictOrReferences}
+
+abbrev pub places_with : (head_size : ℕ) → WordsBefore → SizePlaces
+places_with head_size words_before = record {
+  count = 16;
+  basic_size = 32;
+  item_size = 40;
+  head_size = head_size;
+  words_before = words_before;
+}
+
+abbrev pub places_of_3 : (minor : ℕ) → Option SizePlaces
+places_of_3 minor =
+    if nat_eq minor 7 then Some (places_with 32 Never)
+    else (if nat_eq minor 8 || nat_eq minor 9 || nat_eq minor 10 then Some (places_with 16 Never)
+    else (if nat_eq minor 11 then Some (places_with 16 Dict)
+    else (if nat_eq minor 12 || nat_eq minor 13 then Some (places_with 16 DictOrReferences)
+    else None)))
+
+-- where the sizes of objects of a version stand
+abbrev pub size_places : (major minor : ℕ) → Option SizePlaces
+size_places major minor = if nat_eq major 3 then places_of_3 minor else None

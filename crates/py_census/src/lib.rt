@@ -1,0 +1,27 @@
+//! A census of objects: of each class how many there are, and how many bytes their own blocks have.
+//!
+//! An object's own block has the bytes that its class states for each object, those of its items where it has a count
+//! of items, and what stands before the object: the head of the collector and the words of a managed dict. What other
+//! blocks it has, such as a list's items or a dict's keys, is not counted.
+//!
+//! Where sizes stand, in bytes from the start of an object or of a class on, as `size_places` has them: the count of
+//! items at 16 (`ob_size`; from 3.12 on `lv_tag` of an integer), the bytes of each object of a class at 32
+//! (`tp_basicsize`) and those of an item at 40 (`tp_itemsize`) in each of 3.7 to 3.13, on machines of 8 byte words.
+//!
+//! | version | head of the collector | two words before it | from |
+//! |---|---|---|---|
+//! | 3.7 | 32 | never | objimpl.h |
+//! | 3.8 to 3.10 | 16 | never | cpython/objimpl.h, internal/pycore_gc.h |
+//! | 3.11 | 16 | with a managed dict (bit 4 of the flags) | internal/pycore_object.h |
+//! | 3.12, 3.13 | 16 | with a managed dict or managed weak references (bits 4 and 3) | internal/pycore_object.h |
+#![tactic(auto)]
+
+mod census;
+mod places;
+mod sizes;
+mod tallies;
+mod versions;
+
+pub use census::{Census, CountedClass, count_objects};
+pub use places::{SizePlaces, WordsBefore};
+pub use versions::size_places;

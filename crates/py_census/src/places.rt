@@ -1,0 +1,28 @@
+//! Where the sizes of objects stand.
+
+/// Before which objects two words stand, behind the head of the collector.
+#[derive(Debug, Clone, Copy, PartialEq, Eq)]
+pub enum WordsBefore {
+    /// Before none.
+    Never,
+    /// Before those of classes with a managed dict.
+    Dict,
+    /// Before those of classes with a managed dict or managed weak references.
+    DictOrReferences,
+}
+
+/// Where the sizes of objects stand, in bytes from the start of an object or of a class on, and what stands before
+/// objects.
+#[derive(Debug, Clone, Copy, PartialEq, Eq)]
+pub struct SizePlaces {
+    /// In an object: how many items it has, where its class says that it has a count.
+    pub count: u64,
+    /// In a class: how many bytes an object of it has without its items.
+    pub basic_size: u64,
+    /// In a class: how many bytes an item has.
+    pub item_size: u64,
+    /// How many bytes the head of the collector has.
+    pub head_size: u64,
+    /// Before which objects two words stand.
+    pub words_before: WordsBefore,
+}

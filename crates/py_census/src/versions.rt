@@ -1,0 +1,39 @@
+//! Where the sizes of objects stand, by version.
+ghost use Rattle.std.specs.Prelude.{◌≡◌};
+ghost use Rattle.py_census.specs.Versions.{places_of_3, places_with, size_places};
+
+use crate::{SizePlaces, WordsBefore};
+
+/// With a head of the collector of so many bytes, and two words before some objects.
+fn places_with(head_size: u64, words_before: WordsBefore) -> SizePlaces
+    ensures { result ≡ places_with head_size words_before }
+{
+    SizePlaces {
+        count: 16,
+        basic_size: 32,
+        item_size: 40,
+        head_size,
+        words_before,
+    }
+}
+
+/// Of a minor version of 3.
+fn places_of_3(minor: u32) -> Option<SizePlaces>
+    ensures { result ≡ places_of_3 minor }
+{
+    match minor {
+        7 => Some(places_with(32, WordsBefore::Never)),
+        8 | 9 | 10 => Some(places_with(16, WordsBefore::Never)),
+        11 => Some(places_with(16, WordsBefore::Dict)),
+        12 | 13 => Some(places_with(16, WordsBefore::DictOrReferences)),
+        _ => None,
+    }
+}
+
+/// Where the sizes of objects of a version stand: of 3.7 to 3.13, as this crate's table has them; none of any other
+/// version.
+pub fn size_places(major: u32, minor: u32) -> Option<SizePlaces>
+    ensures { result ≡ size_places major minor }
+{
+    if major == 3 { places_of_3(minor) } else { None }
+}
