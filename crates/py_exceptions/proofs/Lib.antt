@@ -1,3 +1,4 @@
+pub mod Alone
 pub mod Few
 pub mod FrameSteps
 pub mod Listing

@@ -4,6 +4,7 @@ pub mod Exceptions
 pub mod Faults
 pub mod Firsts
 pub mod Frames
+pub mod Last
 pub mod Notes
 pub mod Owners
 pub mod Places
