@@ -27,8 +27,8 @@ pub struct Described {
     pub raised_traceback: Option<u32>,
 }
 
-/// Where the parts of a class stand.
-fn class_of(layout: &Layout, klass: &KlassRecord, heap: &HeapTypeRecord) -> ClassPlaces
+/// Where the parts of a class stand, by a layout and the records of classes.
+pub fn class_of(layout: &Layout, klass: &KlassRecord, heap: &HeapTypeRecord) -> ClassPlaces
     ensures { result ≡ class_of layout.now klass.now heap.now }
 {
     ClassPlaces {

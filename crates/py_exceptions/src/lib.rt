@@ -20,11 +20,11 @@ mod traceback;
 mod value;
 mod values;
 
-pub use described::{Described, places_of};
+pub use described::{Described, class_of, places_of};
 pub use entry::{CalledFrame, Entry, TracebackPlaces};
 pub use exception::ToldException;
 pub use last::{LastException, LastFound, LastName, key_of, read_last};
-pub use name::{ClassName, ClassPlaces};
+pub use name::{ClassName, ClassPlaces, read_class};
 pub use notes::Notes;
 pub use rule::{FieldPlaces, Rule};
 pub use said::Said;

@@ -166,8 +166,9 @@ fn read_by_flags<P: ProcessMemory>(
     or_none(read_whole(alloc, process, places, class))
 }
 
-/// The name of the class at an address; none where its flags or a name of C's is not in memory. At most 16393 reads.
-pub(crate) fn read_class<P: ProcessMemory>(
+/// The name of the class at an address; none where its flags or a name of C's is not in memory. The one error is want of
+/// memory. At most 16393 reads.
+pub fn read_class<P: ProcessMemory>(
     alloc: Global,
     process: &mut P,
     layout: &Layout,
