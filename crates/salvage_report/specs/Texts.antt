@@ -63,7 +63,7 @@ shown_left s left =
 unfoldable pub help_text : List ℕ
 help_text = codes "pysalvage CORE --layouts FILE [--records FILE] [-n N] [-l].. [-j] [--signal] [--registers]\n"
     ++ (codes "          [--missing] [--check-layout] [--names] [--tasks] [--exceptions] [--waits]\n"
-    ++ (codes "          [--native [--strict]] [PATH=FILE]..\n\n"
+    ++ (codes "          [--native [--strict]] [--heap] [PATH=FILE]..\n\n"
     ++ (codes "What is left of the Python stacks in the core of a broken process, or in one that was cut: each chain "
     ++ (codes "of threads and\nframes as far as it goes. Where no mark stands a chain is whole.\n\n"
     ++ (codes "CORE            the core's file\n"
@@ -82,9 +82,10 @@ help_text = codes "pysalvage CORE --layouts FILE [--records FILE] [-n N] [-l].. 
     ++ (codes "--waits         what each thread waits for: a lock and its owner, the interpreter's lock, or a queue\n"
     ++ (codes "--native        the native stack of each thread\n"
     ++ (codes "--strict        native stacks without guesses\n"
+    ++ (codes "--heap          the objects of each class that the collector tracks, and their bytes\n"
     ++ (codes "PATH=FILE       FILE is read in place of the file that the process had mapped from PATH\n"
     ++ (codes "--help          this text\n"
-    ++ codes "--version       the version of the program\n"))))))))))))))))))))))
+    ++ codes "--version       the version of the program\n")))))))))))))))))))))))
 
 abbrev pub program_version : List ℕ
 program_version = codes "pysalvage 1.0.0\n"

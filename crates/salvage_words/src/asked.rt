@@ -36,6 +36,8 @@ pub struct Sections {
     pub native: bool,
     /// `--strict`: native stacks without guesses.
     pub strict: bool,
+    /// `--heap`: the objects of each class that the collector tracks.
+    pub heap: bool,
 }
 
 /// What is asked for of a core.
@@ -113,6 +115,7 @@ fn sections_by(matches: &ArgMatches<'_>) -> Sections
         waits: is_set(matches, "waits"),
         native: is_set(matches, "native"),
         strict: is_set(matches, "strict"),
+        heap: is_set(matches, "heap"),
     }
 }
 
@@ -148,8 +151,8 @@ fn salvage_words(alloc: Global, words: &[String]) -> Result<SalvageWords, ArgsEr
 }
 
 /// What the words ask for: `CORE --layouts FILE [--records FILE] [-n N] [-l].. [-j] [--signal] [--registers]
-/// [--missing] [--check-layout] [--names] [--tasks] [--exceptions] [--waits] [--native] [--strict] [PATH=FILE]..` behind the program's
-/// name, of which nothing is read; or `--help` or `--version` alone.
+/// [--missing] [--check-layout] [--names] [--tasks] [--exceptions] [--waits] [--native] [--strict] [--heap]
+/// [PATH=FILE]..` behind the program's name, of which nothing is read; or `--help` or `--version` alone.
 ///
 /// Clap takes the words, in any order that it knows: the core's file; `--layouts` with a value, once; `--records` with
 /// one, at most once; `-n` or `--frames` with a value, at most once, a number from 1 to 4096 in decimal digits (100

@@ -1,0 +1,55 @@
+-- The lines of the heaps of a process.
+use Rattle.std.specs.Prelude.{ℕ, ◌++◌, false, List, length, map, take, Option, Some, None, codes}
+use Rattle.std.specs.Fmt.{digits}
+use Rattle.std.specs.List.{concat}
+use Rattle.py_heap.specs.declared.heap.Heap.{Heap}
+use Rattle.py_heap.specs.declared.heap.HeapClass.{HeapClass}
+use Rattle.py_heap.specs.declared.heap.HeapTold.{HeapTold}
+use Rattle.py_heap.specs.declared.heap.HeapTold.TheVariants.{NoLists, Counted}
+use Rattle.py_heap.specs.declared.heap.Heaps.{Heaps}
+use Rattle.py_heap.specs.declared.heap.Heaps.TheVariants.{NotDescribed, OfRuntime, OfInterpreters}
+use Rattle.py_heap.specs.declared.heap.InterpreterHeap.{InterpreterHeap}
+use Rattle.heap_texts.specs.Lines.{class_line, collecting_line, counts_text, lead_text, list_line, lost_line, rest_line}
+
+-- how many classes have a line
+abbrev pub most_lines : ℕ
+most_lines = 40
+
+-- how the lists end that don't end as whole ones do
+abbrev pub lists_text : Heap → List ℕ
+lists_text h = list_line (codes "generation 0") h.youngest.end ++ (list_line (codes "generation 1") h.middle.end
+    ++ (list_line (codes "generation 2") h.oldest.end
+    ++ list_line (codes "the permanent generation") h.permanent.end))
+
+abbrev pub classes_text : List HeapClass → List ℕ
+classes_text classes = concat (map (λ c. class_line c) classes)
+
+abbrev pub heap_text : Heap → List ℕ
+heap_text h = counts_text h ++ (collecting_line h.collecting ++ (lists_text h ++ (lost_line h.unreadable
+    ++ (classes_text (take most_lines h.classes.items) ++ rest_line (length h.classes.items)))))
+
+abbrev pub none_line : (head : ℕ) → List ℕ
+none_line head = codes "no list at 0x" ++ (digits 16 false head ++ codes "\n")
+
+abbrev pub told_lines : HeapTold → List ℕ
+told_lines (NoLists head) = none_line head
+told_lines (Counted h) = heap_text h
+
+-- what is told of the lists of an interpreter, or of the runtime
+abbrev pub told_text : Option ℕ → HeapTold → List ℕ
+told_text owner told = lead_text owner ++ told_lines told
+
+abbrev pub interpreter_text : InterpreterHeap → List ℕ
+interpreter_text i = told_text (Some i.interpreter) i.told
+
+abbrev pub interpreters_text : List InterpreterHeap → List ℕ
+interpreters_text heaps = concat (map (λ i. interpreter_text i) heaps)
+
+abbrev pub runtime_text : Option HeapTold → List ℕ
+runtime_text (Some told) = told_text None told
+runtime_text None = codes "Heap of the runtime: no symbol tells where it is\n"
+
+abbrev pub heaps_text : Heaps → List ℕ
+heaps_text NotDescribed = codes "Heap: not described for this version\n"
+heaps_text (OfRuntime told) = runtime_text told
+heaps_text (OfInterpreters heaps) = interpreters_text heaps.items

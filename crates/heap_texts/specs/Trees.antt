@@ -1,0 +1,104 @@
+-- The JSON of the heaps of a process. The keys of an object stand in the order of their bytes.
+use Rattle.std.specs.Prelude.{ℕ, ◌++◌, Bool, false, List, [], ◌∷◌, map, Option, Some, None, codes}
+use Rattle.std.specs.Fmt.{digits}
+use Rattle.serde_json.specs.Data.{Data, array, boolean, member, no_members, null, number, object, string, unsigned}
+use Rattle.serde_json.specs.View.{items_of}
+use Rattle.exception_texts.specs.Text.{known_class}
+use Rattle.gc_lists.specs.declared.turn.ListEnd.{ListEnd}
+use Rattle.gc_lists.specs.declared.turn.ListEnd.TheVariants.{Whole, Torn, Unreadable, Cut}
+use Rattle.py_exceptions.specs.declared.name.ClassName.{ClassName}
+use Rattle.py_heap.specs.declared.heap.Generation.{Generation}
+use Rattle.py_heap.specs.declared.heap.Heap.{Heap}
+use Rattle.py_heap.specs.declared.heap.HeapClass.{HeapClass}
+use Rattle.py_heap.specs.declared.heap.HeapTold.{HeapTold}
+use Rattle.py_heap.specs.declared.heap.HeapTold.TheVariants.{NoLists, Counted}
+use Rattle.py_heap.specs.declared.heap.Heaps.{Heaps}
+use Rattle.py_heap.specs.declared.heap.Heaps.TheVariants.{NotDescribed, OfRuntime, OfInterpreters}
+use Rattle.py_heap.specs.declared.heap.InterpreterHeap.{InterpreterHeap}
+
+abbrev pub address_text : ℕ → List ℕ
+address_text n = codes "0x" ++ digits 16 false n
+
+abbrev pub place_tree : List ℕ → ℕ → Data
+place_tree kind a = object (
+    member (codes "address") (string (address_text a)) (
+    member (codes "kind") (string kind) no_members))
+
+-- how a list ends
+abbrev pub end_tree : ListEnd → Data
+end_tree Whole = object (member (codes "kind") (string (codes "whole")) no_members)
+end_tree (Torn a) = place_tree (codes "torn") a
+end_tree (Unreadable a) = place_tree (codes "unreadable") a
+end_tree (Cut a) = place_tree (codes "cut") a
+
+abbrev pub list_tree : Generation → Data
+list_tree g = object (
+    member (codes "end") (end_tree g.end) (
+    member (codes "objects") (number (unsigned g.objects)) no_members))
+
+abbrev pub lists_tree : Heap → Data
+lists_tree h = object (
+    member (codes "middle") (list_tree h.middle) (
+    member (codes "oldest") (list_tree h.oldest) (
+    member (codes "permanent") (list_tree h.permanent) (
+    member (codes "youngest") (list_tree h.youngest) no_members))))
+
+abbrev pub name_tree : Option ClassName → Data
+name_tree None = null
+name_tree (Some name) = string (known_class name)
+
+abbrev pub class_tree : HeapClass → Data
+class_tree c = object (
+    member (codes "address") (string (address_text c.counted.class)) (
+    member (codes "bytes") (number (unsigned c.counted.bytes)) (
+    member (codes "name") (name_tree c.name) (
+    member (codes "objects") (number (unsigned c.counted.objects)) (
+    member (codes "unknown") (number (unsigned c.counted.unknown)) no_members)))))
+
+abbrev pub classes_tree : List HeapClass → Data
+classes_tree classes = array (items_of (map (λ c. class_tree c) classes))
+
+abbrev pub collecting_tree : Option Bool → Data
+collecting_tree None = null
+collecting_tree (Some collecting) = boolean collecting
+
+abbrev pub heap_tree : Data → Heap → Data
+heap_tree owner h = object (
+    member (codes "classes") (classes_tree h.classes.items) (
+    member (codes "collecting") (collecting_tree h.collecting) (
+    member (codes "interpreter") owner (
+    member (codes "kind") (string (codes "heap")) (
+    member (codes "lists") (lists_tree h) (
+    member (codes "unreadable") (number (unsigned h.unreadable)) no_members))))))
+
+abbrev pub word_tree : Data → List ℕ → Data
+word_tree owner kind = object (
+    member (codes "interpreter") owner (
+    member (codes "kind") (string kind) no_members))
+
+-- the address of an interpreter, or null of the runtime
+abbrev pub owner_tree : Option ℕ → Data
+owner_tree None = null
+owner_tree (Some address) = string (address_text address)
+
+abbrev pub told_tree : Option ℕ → HeapTold → Data
+told_tree owner (NoLists head) = word_tree (owner_tree owner) (codes "no lists")
+told_tree owner (Counted h) = heap_tree (owner_tree owner) h
+
+abbrev pub interpreter_tree : InterpreterHeap → Data
+interpreter_tree i = told_tree (Some i.interpreter) i.told
+
+abbrev pub interpreters_tree : List InterpreterHeap → Data
+interpreters_tree heaps = array (items_of (map (λ i. interpreter_tree i) heaps))
+
+abbrev pub own_tree : Option HeapTold → Data
+own_tree (Some told) = told_tree None told
+own_tree None = word_tree null (codes "no runtime")
+
+abbrev pub runtime_tree : Option HeapTold → Data
+runtime_tree told = array (items_of (own_tree told ∷ []))
+
+abbrev pub heaps_tree : Heaps → Data
+heaps_tree NotDescribed = null
+heaps_tree (OfRuntime told) = runtime_tree told
+heaps_tree (OfInterpreters heaps) = interpreters_tree heaps.items

@@ -1,0 +1,112 @@
+//! The parts of the lines of a heap.
+ghost use Rattle.std.specs.Prelude.{◌≡◌, ◌++◌, OnOk, string_bytes};
+ghost use Rattle.heap_texts.specs.Lines.{class_line, collecting_line, counts_text, lead_text, list_line, size_text};
+ghost use Rattle.heap_texts.specs.Lines.{lost_line, rest_line, unknown_text};
+
+use exception_texts::push_named;
+use gc_lists::ListEnd;
+use py_heap::{Generation, Heap, HeapClass};
+use std::alloc::{AllocError, Global};
+
+/// Whose the lists are: an interpreter's, or the runtime's.
+pub(crate) fn push_lead(text: &mut String, owner: Option<u64>) -> Result<(), AllocError>
+    ensures { OnOk result (string_bytes text.new ≡ string_bytes text.old ++ lead_text owner) }
+{
+    match owner {
+        Some(address) => write!(text, "Heap of the interpreter at 0x{address:x}: "),
+        None => text.push_str("Heap of the runtime: "),
+    }
+}
+
+/// How many objects the lists have.
+pub(crate) fn push_counts(text: &mut String, heap: &Heap) -> Result<(), AllocError>
+    ensures { OnOk result (string_bytes text.new ≡ string_bytes text.old ++ counts_text heap.now) }
+{
+    let youngest = heap.youngest.objects;
+    let middle = heap.middle.objects;
+    let oldest = heap.oldest.objects;
+    let permanent = heap.permanent.objects;
+    write!(
+        text,
+        "{youngest}, {middle}, {oldest} and {permanent} objects\n"
+    )
+}
+
+/// Whether a collection runs, where it does.
+pub(crate) fn push_collecting(text: &mut String, collecting: Option<bool>) -> Result<(), AllocError>
+    ensures { OnOk result (string_bytes text.new ≡ string_bytes text.old ++ collecting_line collecting) }
+{
+    match collecting {
+        Some(true) => text.push_str("    a collection runs\n"),
+        Some(false) | None => Ok(()),
+    }
+}
+
+/// How a list ends, where it doesn't end as a whole one does.
+pub(crate) fn push_list(
+    text: &mut String,
+    name: &str,
+    generation: Generation,
+) -> Result<(), AllocError>
+    ensures { OnOk result (string_bytes text.new ≡ string_bytes text.old ++ list_line name.now generation.end) }
+{
+    match generation.end {
+        ListEnd::Whole => Ok(()),
+        ListEnd::Torn { addr } => write!(text, "    {name} is torn at 0x{addr:x}\n"),
+        ListEnd::Unreadable { addr } => write!(text, "    {name} can't be read at 0x{addr:x}\n"),
+        ListEnd::Cut { addr } => write!(text, "    {name} has more, from 0x{addr:x} on\n"),
+    }
+}
+
+/// Of how many objects the size is not known, where there is one.
+fn push_unknown(text: &mut String, unknown: u64) -> Result<(), AllocError>
+    ensures { OnOk result (string_bytes text.new ≡ string_bytes text.old ++ unknown_text unknown) }
+{
+    if unknown == 0 {
+        return Ok(());
+    }
+    write!(text, ", {unknown} of unknown size")
+}
+
+/// How many objects there are of a class, and how many bytes.
+fn push_size(text: &mut String, objects: u64, bytes: u64) -> Result<(), AllocError>
+    ensures { OnOk result (string_bytes text.new ≡ string_bytes text.old ++ size_text objects bytes) }
+{
+    write!(text, "    {objects} objects, {bytes} bytes")
+}
+
+/// The line of a class.
+pub(crate) fn push_class(
+    alloc: Global,
+    text: &mut String,
+    class: &HeapClass,
+) -> Result<(), AllocError>
+    ensures { OnOk result (string_bytes text.new ≡ string_bytes text.old ++ class_line class.now) }
+{
+    push_size(text, class.counted.objects, class.counted.bytes)?;
+    push_unknown(text, class.counted.unknown)?;
+    text.push_str(": ")?;
+    push_named(alloc, text, &class.name)?;
+    text.push_str("\n")
+}
+
+/// How many classes have no line, where there is one.
+pub(crate) fn push_rest(text: &mut String, classes: usize) -> Result<(), AllocError>
+    ensures { OnOk result (string_bytes text.new ≡ string_bytes text.old ++ rest_line classes) }
+{
+    if classes <= 40 {
+        return Ok(());
+    }
+    let more = classes - 40;
+    write!(text, "    and {more} more classes\n")
+}
+
+/// Of how many objects the class is not known, where there is one.
+pub(crate) fn push_lost(text: &mut String, unreadable: u64) -> Result<(), AllocError>
+    ensures { OnOk result (string_bytes text.new ≡ string_bytes text.old ++ lost_line unreadable) }
+{
+    if unreadable == 0 {
+        return Ok(());
+    }
+    write!(text, "    {unreadable} objects whose class can't be read\n")
+}
