@@ -41,6 +41,49 @@ fn pairs(alloc: Global, key: Repr, value: Repr, left_out: u64) -> Result<Repr, A
     })
 }
 
+fn word(front: Vec<u32>) -> Repr {
+    let length = front.len() as u64;
+    Repr::Text {
+        form: TextForm::Str,
+        front,
+        length,
+    }
+}
+
+fn instance(
+    alloc: Global,
+    names: Vec<Repr>,
+    values: Vec<Repr>,
+    left_out: u64,
+) -> Result<Repr, AllocError> {
+    Ok(Repr::Instance {
+        class: Some(Text::of(alloc, "m.C")?),
+        addr: 16,
+        names,
+        values,
+        left_out,
+    })
+}
+
+#[test]
+fn an_instance_has_names_and_values(rt: HostRuntime) -> Result<(), Fail> {
+    let mut names = Vec::new(rt.alloc());
+    names.push(word(vec![in rt.alloc(); 105, 100]?))?;
+    names.push(word(vec![in rt.alloc(); 97, 61, 98]?))?;
+    names.push(word(vec![in rt.alloc(); 49]?))?;
+    let mut values = Vec::new(rt.alloc());
+    values.push(integer(rt.alloc(), 7)?)?;
+    values.push(integer(rt.alloc(), 8)?)?;
+    values.push(integer(rt.alloc(), 9)?)?;
+    let shown = instance(rt.alloc(), names, values, 3)?;
+    let text = text_of(rt.alloc(), &shown)?;
+    assert!(rt;
+        text.as_str() == "<m.C at 0x10: id=7, 'a=b'=8, '1'=9, .. 3 more>",
+        "{text}"
+    );
+    Ok(())
+}
+
 #[test]
 fn one_item_has_a_comma_in_a_tuple(rt: HostRuntime) -> Result<(), Fail> {
     let item = integer(rt.alloc(), 7)?;

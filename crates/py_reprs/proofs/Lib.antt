@@ -10,3 +10,4 @@ pub mod Mapping
 pub mod Opening
 pub mod Picking
 pub mod Held
+pub mod Attributing

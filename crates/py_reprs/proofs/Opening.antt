@@ -1,7 +1,7 @@
 -- Values with the values within them, as they were read.
-use Rattle.std.proofs.Common.{◌≡◌, ℕ, zero, suc, ◌+◌, ◌-◌, ◌*◌, ◌≤◌, ◌∙◌, Vec, Global, map, refl, sym, ap}
+use Rattle.std.proofs.Common.{◌≡◌, ℕ, zero, suc, ◌+◌, ◌-◌, ◌*◌, ◌≤◌, ◌∙◌, Vec, Global, List, map, refl, sym, ap}
 use Rattle.std.proofs.Common.{arith}
-use Rattle.std.specs.Prelude.{Result, Ok, Err, IfOk}
+use Rattle.std.specs.Prelude.{Result, Ok, Err, IfOk, Option}
 use Rattle.process_memory.specs.Memory.{Memory}
 use Rattle.process_memory.specs.Seen.{Reading, Seen}
 use Rattle.process_memory.proofs.Reading.{reading_then}
@@ -10,6 +10,7 @@ use Rattle.py_reprs.specs.declared.error.ReprError.{ReprError}
 use Rattle.py_reprs.specs.declared.kinds.ReprTypes.{ReprTypes}
 use Rattle.py_reprs.specs.declared.levels.Level.{Level as LevelRead}
 use Rattle.py_reprs.specs.declared.levels.Level.TheVariants.{Whole as WholeRead, Row as RowRead, Entries as EntriesRead}
+use Rattle.py_reprs.specs.declared.levels.Level.TheVariants.{Attributes as AttributesRead}
 use Rattle.py_reprs.specs.declared.limits.Limits.{Limits}
 use Rattle.py_reprs.specs.declared.places.Place.{Place}
 use Rattle.py_reprs.specs.declared.repr.ItemsForm.{ItemsForm}
@@ -18,10 +19,10 @@ use Rattle.py_reprs.specs.declared.repr.Repr.TheVariants as read
 use Rattle.py_reprs.specs.LevelForms.{Level}
 use Rattle.py_reprs.specs.Levels.{level_at, level_of}
 use Rattle.py_reprs.specs.Trees.{Tree, tree_of, trees_of}
-use Rattle.py_reprs.specs.Trees.Tree.{Items, Pairs}
+use Rattle.py_reprs.specs.Trees.Tree.{Items, Pairs, Instance}
 use Rattle.py_reprs.specs.Values.{closed, level_cost, opened, placed, repr_at, value_cost}
 use Rattle.py_reprs.proofs.Shares.{cost_both, cost_within}
-use Rattle.py_reprs.proofs.Views.{tree-Items, tree-Pairs}
+use Rattle.py_reprs.proofs.Views.{tree-Items, tree-Pairs, tree-Instance}
 
 pub level_fits : (b : Limits) (nodes : ℕ) → level_cost b ≤ value_cost b nodes
 unfolding value_cost
@@ -59,6 +60,16 @@ module _ (f : ℕ → ℕ → Tree) (level : LevelRead) {d : Level} where
   entries_opened keys values share left ks vs is h e e2 =
       tree-Pairs ks vs left ∙ ap (λ ts. Pairs (trees_of ts) (trees_of (map tree_of vs.items)) left) e
       ∙ ap (λ ts. Pairs (trees_of (map (placed f share) keys.items)) (trees_of ts) left) e2
+      ∙ ap (opened f) (sym (ap level_of is) ∙ h)
+
+  pub attributes_opened : (class : Option (List ℕ)) (a : ℕ) (names values : Vec Place Global) (share left : ℕ)
+      (ns vs : Vec Repr Global) → level ≡ AttributesRead class a names values share left → level_of level ≡ d
+      → map tree_of ns.items ≡ map (placed f share) names.items
+      → map tree_of vs.items ≡ map (placed f share) values.items
+      → tree_of (read.Instance class a ns vs left) ≡ opened f d
+  attributes_opened class a names values share left ns vs is h e e2 =
+      tree-Instance class a ns vs left ∙ ap (λ ts. Instance class a (trees_of ts) (trees_of (map tree_of vs.items)) left) e
+      ∙ ap (λ ts. Instance class a (trees_of (map (placed f share) names.items)) (trees_of ts) left) e2
       ∙ ap (opened f) (sym (ap level_of is) ∙ h)
 
 pub repr_closed : (l : Layout) (t : ReprTypes) (b : Limits) (m : Memory) (levels nodes a : ℕ) → levels ≡ 0

@@ -9,7 +9,7 @@ use Rattle.py_reprs.specs.declared.repr.TextForm.{TextForm}
 use Rattle.py_reprs.specs.declared.repr.Repr.{Repr, the_lemmas}
 use Rattle.py_reprs.specs.declared.repr.Repr.TheVariants as read
 use Rattle.py_reprs.specs.Trees.{tree_of, trees_of}
-use Rattle.py_reprs.specs.Trees.Tree.{Absent, Nothing, Ellipsis, NotImplemented, Truth, Integer, SmallInteger, HugeInteger, Float, Complex, Text, Bytes, Items, Pairs, Class, Function, Builtin, Module, Opaque, Lost, Damaged}
+use Rattle.py_reprs.specs.Trees.Tree.{Absent, Nothing, Ellipsis, NotImplemented, Truth, Integer, SmallInteger, HugeInteger, Float, Complex, Text, Bytes, Items, Pairs, Class, Function, Builtin, Module, Opaque, Instance, Lost, Damaged}
 
 pub tree-Absent : tree_of read.Absent ≡ Absent
 tree-Absent = search (rules, the_lemmas)
@@ -74,6 +74,10 @@ tree-Module name addr = search (rules, the_lemmas)
 
 pub tree-Opaque : (class : Option (List ℕ)) (addr : ℕ) → tree_of (read.Opaque class addr) ≡ Opaque class addr
 tree-Opaque class addr = search (rules, the_lemmas)
+
+pub tree-Instance : (class : Option (List ℕ)) (addr : ℕ) (names : Vec Repr Global) (values : Vec Repr Global) (left_out : ℕ)
+    → tree_of (read.Instance class addr names values left_out) ≡ Instance class addr (trees_of (map tree_of names.items)) (trees_of (map tree_of values.items)) left_out
+tree-Instance class addr names values left_out = search (rules, the_lemmas)
 
 pub tree-Lost : (kind : Kind) (addr : ℕ) (len : ℕ) → tree_of (read.Lost kind addr len) ≡ Lost kind addr len
 tree-Lost kind addr len = search (rules, the_lemmas)

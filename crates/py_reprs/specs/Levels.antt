@@ -21,13 +21,16 @@ use Rattle.py_reprs.specs.declared.kinds.Kind.TheVariants as kind
 use Rattle.py_reprs.specs.declared.kinds.ReprTypes.{ReprTypes}
 use Rattle.py_reprs.specs.declared.levels.Level.{Level as LevelRead}
 use Rattle.py_reprs.specs.declared.levels.Level.TheVariants.{Whole as WholeRead, Row as RowRead, Entries as EntriesRead}
+use Rattle.py_reprs.specs.declared.levels.Level.TheVariants.{Attributes as AttributesRead}
 use Rattle.py_reprs.specs.declared.limits.Limits.{Limits}
 use Rattle.py_reprs.specs.declared.repr.ItemsForm.{ItemsForm}
 use Rattle.py_reprs.specs.declared.repr.ItemsForm.TheVariants as form
+use Rattle.py_reprs.specs.declared.attributes.InstanceRule.{InstanceRule}
+use Rattle.py_reprs.specs.Attributes.{attributes_at, found_or_none, instance_by}
 use Rattle.py_reprs.specs.Kinds.{is_python_2, kind_of}
-use Rattle.py_reprs.specs.LevelForms.{Level, Whole, Row, Entries}
+use Rattle.py_reprs.specs.LevelForms.{Level, Whole, Row, Entries, Attributes}
 use Rattle.py_reprs.specs.Limits.{share, shown_count}
-use Rattle.py_reprs.specs.Names.{class_at, opaque_at}
+use Rattle.py_reprs.specs.Names.{class_at, name_at, opaque_at}
 use Rattle.py_reprs.specs.Numbers.{complex_at, float_at, integer_at, small_integer_at, truth_by}
 use Rattle.py_reprs.specs.Places.{places_at}
 use Rattle.py_reprs.specs.Slots.{dict_level_at, set_level_at}
@@ -73,18 +76,29 @@ leaf_level_at l b m name a k = do
   t ← leaf_at l b m name a k
   Ok (Whole t)
 
+-- the instance of a class at an address, with its attributes
+unfoldable pub instance_at : Layout → Limits → Memory → InstanceRule → (nodes name addr : ℕ) → Level
+instance_at l b m r nodes name a =
+    instance_by b (name_at m name) a nodes (found_or_none (attributes_at l r m (4 * b.items) a))
+
+-- an object of another type
+unfoldable pub other_level_at : Layout → Limits → Memory → Option InstanceRule → (nodes name addr : ℕ) → Found Level
+other_level_at l b m None nodes name a = leaf_level_at l b m name a kind.Other
+other_level_at l b m (Some r) nodes name a = Ok (instance_at l b m r nodes name a)
+
 -- a value of a kind
-unfoldable pub kind_level_at : Layout → Limits → Memory → (nodes name addr : ℕ) → Kind → Found Level
-kind_level_at l b m nodes name a kind.List = items_level_at l b m form.List sequence.List nodes a
-kind_level_at l b m nodes name a kind.Tuple = items_level_at l b m form.Tuple sequence.Tuple nodes a
-kind_level_at l b m nodes name a kind.Range = fields_level_at l b m form.Range nodes 3 a
-kind_level_at l b m nodes name a kind.Slice = fields_level_at l b m form.Slice nodes 3 a
-kind_level_at l b m nodes name a kind.Cell = fields_level_at l b m form.Cell nodes 1 a
-kind_level_at l b m nodes name a kind.Method = fields_level_at l b m form.Method nodes 2 a
-kind_level_at l b m nodes name a kind.Dict = dict_level_at l b m nodes a
-kind_level_at l b m nodes name a kind.Set = set_level_at l b m form.Set nodes a
-kind_level_at l b m nodes name a kind.FrozenSet = set_level_at l b m form.FrozenSet nodes a
-kind_level_at l b m nodes name a k = leaf_level_at l b m name a k
+unfoldable pub kind_level_at : Layout → Limits → Memory → Option InstanceRule → (nodes name addr : ℕ) → Kind → Found Level
+kind_level_at l b m r nodes name a kind.List = items_level_at l b m form.List sequence.List nodes a
+kind_level_at l b m r nodes name a kind.Tuple = items_level_at l b m form.Tuple sequence.Tuple nodes a
+kind_level_at l b m r nodes name a kind.Range = fields_level_at l b m form.Range nodes 3 a
+kind_level_at l b m r nodes name a kind.Slice = fields_level_at l b m form.Slice nodes 3 a
+kind_level_at l b m r nodes name a kind.Cell = fields_level_at l b m form.Cell nodes 1 a
+kind_level_at l b m r nodes name a kind.Method = fields_level_at l b m form.Method nodes 2 a
+kind_level_at l b m r nodes name a kind.Dict = dict_level_at l b m nodes a
+kind_level_at l b m r nodes name a kind.Set = set_level_at l b m form.Set nodes a
+kind_level_at l b m r nodes name a kind.FrozenSet = set_level_at l b m form.FrozenSet nodes a
+kind_level_at l b m r nodes name a kind.Other = other_level_at l b m r nodes name a
+kind_level_at l b m r nodes name a k = leaf_level_at l b m name a k
 
 abbrev pub fault_tree : Kind → ℕ → Fault → Tree
 fault_tree k a (Missing at len) = Lost k at len
@@ -97,7 +111,7 @@ told k a (Err f) = Whole (fault_tree k a f)
 
 abbrev pub level_by : Layout → ReprTypes → Limits → Memory → (nodes addr : ℕ) → Found ObjectType → Level
 level_by l t b m nodes a (Ok class) =
-    told (kind_of l t class) a (kind_level_at l b m nodes class.name a (kind_of l t class))
+    told (kind_of l t class) a (kind_level_at l b m t.instances nodes class.name a (kind_of l t class))
 level_by l t b m nodes a (Err f) = told kind.Other a (Err f)
 
 -- the value at an address
@@ -109,6 +123,7 @@ abbrev pub FitsIn : ℕ → Level → Type 0
 FitsIn nodes (Whole t) = ⊤
 FitsIn nodes (Row form places share left_out) = length places * (1 + share) ≤ nodes
 FitsIn nodes (Entries keys values share left_out) = (length keys + length values) * (1 + share) ≤ nodes
+FitsIn nodes (Attributes class a names values share left_out) = (length names + length values) * (1 + share) ≤ nodes
 
 -- ---- as it is read
 
@@ -116,6 +131,7 @@ abbrev pub level_of : LevelRead → Level
 level_of (WholeRead r) = Whole (tree_of r)
 level_of (RowRead form places share left_out) = Row form places.items share left_out
 level_of (EntriesRead keys values share left_out) = Entries keys.items values.items share left_out
+level_of (AttributesRead class a names values share left_out) = Attributes class a names.items values.items share left_out
 
 abbrev pub levels_found : {E : Type 0} → Result LevelRead E → Result Level E
 levels_found (Ok level) = Ok (level_of level)

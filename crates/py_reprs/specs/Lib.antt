@@ -8,6 +8,7 @@ pub mod Texts
 pub mod Names
 pub mod Places
 pub mod LevelForms
+pub mod Attributes
 pub mod Slots
 pub mod Levels
 pub mod Values

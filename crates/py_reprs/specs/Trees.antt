@@ -30,6 +30,7 @@ mutual
     Builtin : (name : Option (List ℕ)) → (addr : ℕ) → Tree
     Module : (name : Option (List ℕ)) → (addr : ℕ) → Tree
     Opaque : (class : Option (List ℕ)) → (addr : ℕ) → Tree
+    Instance : (class : Option (List ℕ)) → (addr : ℕ) → (names values : Trees) → (left_out : ℕ) → Tree
     Lost : Kind → (addr len : ℕ) → Tree
     Damaged : Kind → (addr : ℕ) → Tree
 
@@ -63,6 +64,8 @@ tree_step (Repr-F.Function name file line addr) = Function name file line addr
 tree_step (Repr-F.Builtin name addr) = Builtin name addr
 tree_step (Repr-F.Module name addr) = Module name addr
 tree_step (Repr-F.Opaque class addr) = Opaque class addr
+tree_step (Repr-F.Instance class addr names values left_out) =
+    Instance class addr (trees_of names.items) (trees_of values.items) left_out
 tree_step (Repr-F.Lost kind addr len) = Lost kind addr len
 tree_step (Repr-F.Damaged kind addr) = Damaged kind addr
 

@@ -9,9 +9,9 @@ use Rattle.py_reprs.specs.declared.places.Place.{Place}
 use Rattle.py_reprs.specs.declared.places.Place.TheVariants.{At, Gap}
 use Rattle.py_reprs.specs.LevelForms.{Level}
 use Rattle.py_reprs.specs.Levels.{level_at}
-use Rattle.py_reprs.specs.LevelForms.{Whole, Row, Entries}
+use Rattle.py_reprs.specs.LevelForms.{Whole, Row, Entries, Attributes}
 use Rattle.py_reprs.specs.Trees.{Tree, Trees, no_trees, trees_of}
-use Rattle.py_reprs.specs.Trees.Tree.{Items, Pairs, Lost}
+use Rattle.py_reprs.specs.Trees.Tree.{Items, Pairs, Instance, Lost}
 
 -- the value at a place, where each has a share of the nodes
 abbrev pub placed : (ℕ → ℕ → Tree) → ℕ → Place → Tree
@@ -27,12 +27,15 @@ opened value (Whole t) = t
 opened value (Row form places share left_out) = Items form (all_placed value share places) left_out
 opened value (Entries keys values share left_out) =
     Pairs (all_placed value share keys) (all_placed value share values) left_out
+opened value (Attributes class a names values share left_out) =
+    Instance class a (all_placed value share names) (all_placed value share values) left_out
 
 -- one that is not opened: all is left out
 abbrev pub closed : Level → Tree
 closed (Whole t) = t
 closed (Row form places share left_out) = Items form no_trees left_out
 closed (Entries keys values share left_out) = Pairs no_trees no_trees left_out
+closed (Attributes class a names values share left_out) = Instance class a no_trees no_trees left_out
 
 -- the value at an address, where so many levels are opened, and so many nodes are left for the values within it
 unfoldable pub repr_at : Layout → ReprTypes → Limits → Memory → (levels nodes addr : ℕ) → Tree

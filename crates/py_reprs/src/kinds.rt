@@ -4,6 +4,7 @@ ghost use Rattle.py_builtins.specs.Texts.{bit_is_set};
 ghost use Rattle.py_reprs.specs.Kinds.{called_kind, flagged_kind, held_kind, holding_kind, is_at, is_python_2, kind_of};
 ghost use Rattle.py_reprs.specs.Kinds.{python_2_kind, python_3_kind, single_kind};
 
+use crate::attributes::InstanceRule;
 use py_builtins::ObjectType;
 use py_fields::Layout;
 
@@ -46,8 +47,9 @@ pub enum Kind {
     Other,
 }
 
-/// The addresses of the types by which values are told whose types' flags say nothing; none where one is not known, whose
-/// values are told then as objects of another type. `bool` is told by its address too: by its flags it is an integer.
+/// By what values are told: the addresses of the types whose flags say nothing, and how instances have their attributes.
+/// A type is none where it is not known, and its values are told then as objects of another type. `bool` is told by its
+/// address too: by its flags it is an integer.
 #[derive(Debug, Clone, Copy, Drop, PartialEq, Eq)]
 pub struct ReprTypes {
     /// `NoneType`.
@@ -71,6 +73,8 @@ pub struct ReprTypes {
     /// `builtin_function_or_method`.
     pub builtin: Option<u64>,
     pub module: Option<u64>,
+    /// By what the attributes of objects of another type are found; none where they are not shown.
+    pub instances: Option<InstanceRule>,
 }
 
 /// Whether a layout is that of a Python 2.

@@ -4,6 +4,8 @@ ghost use Rattle.process_memory.specs.Seen.{Reading, Reads};
 ghost use Rattle.py_fields.specs.Sound.{IsSound};
 ghost use Rattle.py_builtins.specs.ObjectError.{object_fault};
 ghost use Rattle.py_reprs.specs.Found.{trees_found};
+ghost use Rattle.py_reprs.specs.Attributes.{attributes_level, held, held_if, instance_by};
+ghost use Rattle.py_reprs.specs.Levels.{instance_at, other_level_at};
 ghost use Rattle.py_reprs.specs.Levels.{FitsIn, Tells, fields_level_at, items_level_at, kind_level_at, leaf_at};
 ghost use Rattle.py_reprs.specs.LevelForms.{Whole};
 ghost use Rattle.py_reprs.specs.Levels.{leaf_level_at, level_at, level_by, level_of, levels_found, row_at};
@@ -12,16 +14,20 @@ ghost use Rattle.py_reprs.specs.Slots.{values_place};
 ghost use Rattle.py_reprs.specs.Trees.Tree.{Damaged};
 ghost use Rattle.py_reprs.specs.Values.{level_cost};
 
+use crate::attributes::{
+    InstanceAttributes, InstanceRule, attribute_values, names_of, read_attributes,
+};
 use crate::error::ReprError;
 use crate::kinds::{Kind, ReprTypes, is_python_2, kind_of};
 use crate::limits::{Limits, share, shown_count, shown_entries};
-use crate::names::{read_class, read_opaque};
+use crate::names::{read_class, read_name, read_opaque};
 use crate::numbers::{read_complex, read_float, read_integer, read_small_integer, read_truth};
 use crate::places::{Place, read_places};
 use crate::repr::{ItemsForm, Repr};
 use crate::slots::{keys_of, looked_at, read_entries, read_members, values_of};
 use crate::texts::{read_bytearray, read_bytes, read_text};
-use elf64_core::u64_in;
+use elf64_core::{Text, u64_in};
+use instance_dicts::Attribute;
 use process_memory::{ProcessMemory, record_wide, word_past};
 use py_builtins::{DictCursor, ObjectError, ObjectType, Sequence, read_items, read_type};
 use py_fields::Layout;
@@ -42,6 +48,15 @@ pub(crate) enum Level {
     /// The keys and the values of entries.
     Entries {
         keys: Vec<Place>,
+        values: Vec<Place>,
+        share: u32,
+        left_out: u64,
+    },
+    /// The names and the values of attributes of an instance of this class at this address.
+    Attributes {
+        class: Option<Text>,
+        addr: u64,
+        names: Vec<Place>,
         values: Vec<Place>,
         share: u32,
         left_out: u64,
@@ -303,12 +318,124 @@ fn read_leaf_level<P: ProcessMemory>(
     Ok(Level::Whole(value))
 }
 
+/// An instance of a class by its attributes: by its class and its address alone where it has none.
+fn attributes_level(
+    alloc: Global,
+    limits: &Limits,
+    class: Option<Text>,
+    addr: u64,
+    nodes: u32,
+    list: &[Attribute],
+    count: u64,
+) -> Result<Level, ReprError>
+    ensures answer { IfOk result (λ level. level_of level
+        ≡ attributes_level limits.now class addr nodes (held list.now count)) }
+    ensures few { IfOk result (λ level. FitsIn nodes (level_of level)) }
+{
+    if list.is_empty() {
+        return Ok(Level::Whole(Repr::Opaque { class, addr }));
+    }
+    let shown = shown_entries(limits, nodes, list.len() as u64);
+    let names = names_of(alloc, list, shown as usize)?;
+    let values = attribute_values(alloc, list, shown as usize)?;
+    Ok(Level::Attributes {
+        class,
+        addr,
+        names,
+        values,
+        share: share(nodes, 2 * shown),
+        left_out: count.saturating_sub(shown as u64),
+    })
+}
+
+/// The same, where attributes may have been found.
+fn instance_by(
+    alloc: Global,
+    limits: &Limits,
+    class: Option<Text>,
+    addr: u64,
+    nodes: u32,
+    found: Option<InstanceAttributes>,
+) -> Result<Level, ReprError>
+    ensures answer { IfOk result (λ level. level_of level
+        ≡ instance_by limits.now class addr nodes (held_if found)) }
+    ensures few { IfOk result (λ level. FitsIn nodes (level_of level)) }
+{
+    match found {
+        None => Ok(Level::Whole(Repr::Opaque { class, addr })),
+        Some(found) => attributes_level(
+            alloc,
+            limits,
+            class,
+            addr,
+            nodes,
+            &found.list,
+            found.count,
+        ),
+    }
+}
+
+/// The instance at an address. At most 8 reads for each item that may be shown, and 11 more.
+fn read_instance<P: ProcessMemory>(
+    alloc: Global,
+    process: &mut P,
+    layout: &Layout,
+    limits: &Limits,
+    rule: InstanceRule,
+    nodes: u32,
+    name: u64,
+    addr: u64,
+) -> Result<Level, ObjectError>
+    requires sound { IsSound layout.now }
+    ensures answer { Reads object_fault (8 * limits.now.items + 11) (P.seen process.old) (P.seen process.new)
+        (λ m. Ok (instance_at layout.now limits.now m rule nodes name addr)) (levels_found result) }
+    ensures few { IfOk result (λ level. FitsIn nodes (level_of level)) }
+{
+    let class = read_name(alloc, process, name)?;
+    let limit = 4 * limits.items as u64;
+    let found = read_attributes(alloc, process, layout, rule, limit, addr)?;
+    let level = instance_by(alloc, limits, class, addr, nodes, found)?;
+    Ok(level)
+}
+
+/// An object of another type, with its attributes where it is said how instances have theirs.
+fn read_other<P: ProcessMemory>(
+    alloc: Global,
+    process: &mut P,
+    layout: &Layout,
+    limits: &Limits,
+    instances: Option<InstanceRule>,
+    nodes: u32,
+    name: u64,
+    addr: u64,
+) -> Result<Level, ObjectError>
+    requires sound { IsSound layout.now }
+    ensures answer { Reads object_fault (level_cost limits.now - 2) (P.seen process.old) (P.seen process.new)
+        (λ m. other_level_at layout.now limits.now m instances nodes name addr) (levels_found result) }
+    ensures few { IfOk result (λ level. FitsIn nodes (level_of level)) }
+{
+    match instances {
+        None => read_leaf_level(
+            alloc,
+            process,
+            layout,
+            limits,
+            nodes,
+            name,
+            addr,
+            Kind::Other,
+        ),
+        Some(rule) => read_instance(alloc, process, layout, limits, rule, nodes, name, addr),
+    }
+}
+
 /// The value of a kind at an address, of a type whose name stands at another.
 fn read_kind<P: ProcessMemory>(
     alloc: Global,
     process: &mut P,
     layout: &Layout,
     limits: &Limits,
+    instances: Option<InstanceRule>,
     nodes: u32,
     name: u64,
     addr: u64,
@@ -316,7 +443,7 @@ fn read_kind<P: ProcessMemory>(
 ) -> Result<Level, ObjectError>
     requires sound { IsSound layout.now }
     ensures answer { Reads object_fault (level_cost limits.now - 2) (P.seen process.old) (P.seen process.new)
-        (λ m. kind_level_at layout.now limits.now m nodes name addr kind) (levels_found result) }
+        (λ m. kind_level_at layout.now limits.now m instances nodes name addr kind) (levels_found result) }
     ensures few { IfOk result (λ level. FitsIn nodes (level_of level)) }
 {
     match kind {
@@ -541,16 +668,7 @@ fn read_kind<P: ProcessMemory>(
             addr,
             Kind::Module,
         ),
-        Kind::Other => read_leaf_level(
-            alloc,
-            process,
-            layout,
-            limits,
-            nodes,
-            name,
-            addr,
-            Kind::Other,
-        ),
+        Kind::Other => read_other(alloc, process, layout, limits, instances, nodes, name, addr),
     }
 }
 
@@ -602,7 +720,15 @@ fn read_typed<P: ProcessMemory>(
 {
     let kind = kind_of(layout, types, class);
     let found = read_kind(
-        alloc, process, layout, limits, nodes, class.name, addr, kind,
+        alloc,
+        process,
+        layout,
+        limits,
+        types.instances,
+        nodes,
+        class.name,
+        addr,
+        kind,
     );
     tell(kind, addr, found)
 }

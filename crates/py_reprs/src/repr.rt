@@ -136,6 +136,15 @@ pub enum Repr {
         class: Option<Text>,
         addr: u64,
     },
+    /// An object of another type with attributes: its class as `Opaque` has it, its address, the names of its first
+    /// attributes and their values, as many and in the same order, and how many more attributes it has.
+    Instance {
+        class: Option<Text>,
+        addr: u64,
+        names: Vec<Repr>,
+        values: Vec<Repr>,
+        left_out: u64,
+    },
     /// A value of a kind that can't be read: `len` bytes at `addr` are not in memory. An address that was computed outside
     /// 0 to 2^64 - 1 is told as 2^64 - 1.
     Lost {

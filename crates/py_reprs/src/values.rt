@@ -18,8 +18,9 @@ use std::alloc::Global;
 
 /// The value at an address, as it is shown within limits.
 ///
-/// It is told what it is by the address of its type, else by the flags of that, else it is an object of another type,
-/// whose name and address are shown. A text and bytes show their first characters, and a container its first items, each
+/// It is told what it is by the address of its type, else by the flags of that, else it is an object of another type:
+/// its class's name and its address are shown, and its first attributes with their names, as the entries of a dict are,
+/// where it has some that can be read and it is said how instances have theirs (`ReprTypes::instances`). A text and bytes show their first characters, and a container its first items, each
 /// as a value, with how much is left out. Of so many nodes each of a container's shown items has an equal share for the
 /// values within it, less the items themselves; below the last level, and where no node is left, nothing of a container is
 /// shown but how many items it has. So a list of itself ends.
@@ -120,6 +121,18 @@ fn closed(alloc: Global, level: Level) -> Repr
             values: Vec::new(alloc),
             left_out,
         },
+        Level::Attributes {
+            class,
+            addr,
+            left_out,
+            ..
+        } => Repr::Instance {
+            class,
+            addr,
+            names: Vec::new(alloc),
+            values: Vec::new(alloc),
+            left_out,
+        },
     }
 }
 
@@ -171,6 +184,26 @@ fn read_opened<P: ProcessMemory>(
             )?;
             Ok(Repr::Pairs {
                 keys,
+                values,
+                left_out,
+            })
+        }
+        Level::Attributes {
+            class,
+            addr: at,
+            names,
+            values,
+            share,
+            left_out,
+        } => {
+            let names = read_all(alloc, process, layout, types, limits, levels, share, &names)?;
+            let values = read_all(
+                alloc, process, layout, types, limits, levels, share, &values,
+            )?;
+            Ok(Repr::Instance {
+                class,
+                addr: at,
+                names,
                 values,
                 left_out,
             })

@@ -9,9 +9,9 @@ use Rattle.serde_json.specs.Written.{has_float, items_have_float}
 use Rattle.py_reprs.specs.Trees.{Tree, Trees}
 use Rattle.py_reprs.specs.Trees.Tree.{Absent, Nothing, Ellipsis, NotImplemented, Truth, Integer, SmallInteger}
 use Rattle.py_reprs.specs.Trees.Tree.{HugeInteger, Float, Complex, Text, Bytes, Items, Pairs, Class, Function, Builtin}
-use Rattle.py_reprs.specs.Trees.Tree.{Module, Opaque, Lost, Damaged}
+use Rattle.py_reprs.specs.Trees.Tree.{Module, Opaque, Instance, Lost, Damaged}
 use Rattle.py_reprs.specs.Trees.Trees.{no_trees, tree}
-use Rattle.repr_json.specs.Leaves.{name_tree, number_or_text, signed, small_integer_tree, small_number}
+use Rattle.repr_json.specs.Leaves.{instance_tree, name_tree, number_or_text, signed, small_integer_tree, small_number}
 use Rattle.repr_json.specs.Leaves.{complex_tree, part_tree}
 use Rattle.repr_json.specs.Trees.{AreJson, IsJson, items_kind, items_tree, pair_trees, pair_tree}
 
@@ -59,6 +59,11 @@ container : (kind : List ℕ) (parts : List Data) (n : ℕ) → items_have_float
     → has_float (items_tree kind parts n) ≡ false
 container kind parts n h = ap (λ b. b || false) h
 
+instance : (class : Option (List ℕ)) (addr : ℕ) (parts : List Data) (n : ℕ) → items_have_float (items_of parts) ≡ false
+    → has_float (instance_tree class addr parts n) ≡ false
+instance class addr parts n h = or_both (items_have_float (items_of parts)) (has_float (name_tree class) || false) h
+    (ap (λ b. b || false) (name class))
+
 mutual
   unfolding IsJson
 
@@ -89,6 +94,9 @@ mutual
   no_float (Builtin n addr) d is = ap has_float is ∙ ap (λ b. b || false) (name n)
   no_float (Module n addr) d is = ap has_float is ∙ ap (λ b. b || false) (name n)
   no_float (Opaque class addr) d is = ap has_float is ∙ ap (λ b. b || false) (name class)
+  no_float (Instance class addr names values left_out) d is = ap has_float is.4
+      ∙ instance class addr (pair_trees is.0 is.1) left_out
+      (pairs is.0 is.1 (no_floats names is.0 is.2) (no_floats values is.1 is.3))
   no_float (Lost kind addr len) d is = ap has_float is
   no_float (Damaged kind addr) d is = ap has_float is
 

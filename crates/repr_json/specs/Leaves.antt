@@ -6,8 +6,9 @@ use Rattle.std.specs.Prelude.{encode_utf8_all}
 use Rattle.std.specs.Fmt.{digits, signed_decimal}
 use Rattle.std.specs.List.{flat_map}
 use lib.Utf8.{scalar}
-use Rattle.serde_json.specs.Data.{Data, Members, boolean, member, no_members, null, number, object, string, unsigned}
+use Rattle.serde_json.specs.Data.{Data, Members, array, boolean, member, no_members, null, number, object, string, unsigned}
 use Rattle.serde_json.specs.Find.{of_integer}
+use Rattle.serde_json.specs.View.{items_of}
 use Rattle.python_literals.specs.Integers.{integer_text}
 use Rattle.py_reprs.specs.declared.kinds.Kind.{Kind}
 use Rattle.py_reprs.specs.declared.kinds.Kind.TheVariants as kind
@@ -152,6 +153,15 @@ opaque_tree class addr = object (
     member (codes "address") (hex_tree addr) (
     member (codes "kind") (string (codes "object")) (
     member (codes "type") (name_tree class) no_members)))
+
+-- an instance by its attributes that are shown, and how many more there are
+abbrev pub instance_tree : Option (List ℕ) → ℕ → List Data → ℕ → Data
+instance_tree class addr parts left_out = object (
+    member (codes "address") (hex_tree addr) (
+    member (codes "attributes") (array (items_of parts)) (
+    member (codes "kind") (string (codes "instance")) (
+    member (codes "more") (number (unsigned left_out)) (
+    member (codes "type") (name_tree class) no_members)))))
 
 -- the word for a kind
 abbrev pub kind_word : Kind → List ℕ

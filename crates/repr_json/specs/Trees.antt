@@ -9,10 +9,10 @@ use Rattle.py_reprs.specs.declared.repr.ItemsForm.TheVariants as items
 use Rattle.py_reprs.specs.Trees.{Tree, Trees}
 use Rattle.py_reprs.specs.Trees.Tree.{Absent, Nothing, Ellipsis, NotImplemented, Truth, Integer, SmallInteger}
 use Rattle.py_reprs.specs.Trees.Tree.{HugeInteger, Float, Complex, Text, Bytes, Items, Pairs, Class, Function, Builtin}
-use Rattle.py_reprs.specs.Trees.Tree.{Module, Opaque, Lost, Damaged}
+use Rattle.py_reprs.specs.Trees.Tree.{Module, Opaque, Instance, Lost, Damaged}
 use Rattle.py_reprs.specs.Trees.Trees.{no_trees, tree}
 use Rattle.repr_json.specs.Leaves.{bytes_tree, complex_tree, damaged_tree, float_tree, function_tree, huge_tree}
-use Rattle.repr_json.specs.Leaves.{integer_tree, kind_tree, lost_tree, named_tree, opaque_tree, part_tree}
+use Rattle.repr_json.specs.Leaves.{instance_tree, integer_tree, kind_tree, lost_tree, named_tree, opaque_tree, part_tree}
 use Rattle.repr_json.specs.Leaves.{small_integer_tree, text_tree, truth_tree}
 
 -- the word for a container
@@ -86,6 +86,8 @@ unfoldable mutual
   IsJson (Builtin name addr) d = d ≡ named_tree (codes "builtin") name addr
   IsJson (Module name addr) d = d ≡ named_tree (codes "module") name addr
   IsJson (Opaque class addr) d = d ≡ opaque_tree class addr
+  IsJson (Instance class addr names values left_out) d = (ns vs : List Data) × AreJson names ns × AreJson values vs
+      × (d ≡ instance_tree class addr (pair_trees ns vs) left_out)
   IsJson (Lost kind addr len) d = d ≡ lost_tree kind addr len
   IsJson (Damaged kind addr) d = d ≡ damaged_tree kind addr
 

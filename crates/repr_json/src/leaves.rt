@@ -1,10 +1,10 @@
 //! Values without others in them, but for numbers.
-ghost use Rattle.std.specs.Prelude.{◌≡◌, ◌++◌, ◌<◌, IfOk, codes, false, string_bytes};
+ghost use Rattle.std.specs.Prelude.{◌≡◌, ◌++◌, ◌<◌, IfOk, codes, false, map, string_bytes};
 ghost use Rattle.std.specs.Fmt.{digits};
 ghost use Rattle.serde_json.specs.View.{view};
 ghost use Rattle.repr_json.specs.Leaves.{bytes_kind, bytes_tree, character_of, characters, damaged_tree, function_tree};
 ghost use Rattle.repr_json.specs.Leaves.{hex_digit, hex_text, hex_tree, kind_tree, kind_word, lost_tree, name_tree};
-ghost use Rattle.repr_json.specs.Leaves.{named_tree, opaque_tree, text_kind, text_tree, truth_tree};
+ghost use Rattle.repr_json.specs.Leaves.{instance_tree, named_tree, opaque_tree, text_kind, text_tree, truth_tree};
 
 use crate::numbers::valued;
 use elf64_core::Text;
@@ -203,6 +203,29 @@ pub(crate) fn opaque_value(
     json!(in alloc; {
         "address": address,
         "kind": "object",
+        "type": class
+    })
+}
+
+/// An instance by its attributes.
+pub(crate) fn instance_value(
+    alloc: Global,
+    class: &Option<Text>,
+    addr: u64,
+    attributes: Vec<Value>,
+    left_out: u64,
+) -> Result<Value, AllocError>
+    ensures { IfOk result (λ own. view own
+        ≡ instance_tree class.now addr (map view attributes.items) left_out) }
+{
+    let address = hex_value(alloc, addr)?;
+    let attributes = Value::Array(attributes);
+    let class = name_value(alloc, class)?;
+    json!(in alloc; {
+        "address": address,
+        "attributes": attributes,
+        "kind": "instance",
+        "more": left_out,
         "type": class
     })
 }

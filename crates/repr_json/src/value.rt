@@ -2,13 +2,15 @@
 ghost use Rattle.std.specs.Prelude.{◌≡◌, IfOk, codes, map};
 ghost use Rattle.serde_json.specs.View.{view};
 ghost use Rattle.py_reprs.specs.Trees.{tree_of, trees_of};
+ghost use Rattle.repr_json.specs.Leaves.{instance_tree};
 ghost use Rattle.repr_json.specs.Trees.{AreJson, IsJson, items_kind, items_tree, pair_tree, pair_trees};
 
 use crate::leaves::{
-    bytes_value, damaged_value, function_value, kind_value, lost_value, named_value, opaque_value,
-    text_value, truth_value,
+    bytes_value, damaged_value, function_value, instance_value, kind_value, lost_value,
+    named_value, opaque_value, text_value, truth_value,
 };
 use crate::numbers::{complex_value, float_value, huge_value, integer_value, small_integer_value};
+use elf64_core::Text;
 use py_reprs::{ItemsForm, Repr};
 use serde_json::{Value, json};
 use std::alloc::{AllocError, Global};
@@ -83,6 +85,22 @@ fn dict(
     container(alloc, "dict", pairs, left_out)
 }
 
+/// An instance by what it shows.
+fn instance(
+    alloc: Global,
+    class: &Option<Text>,
+    addr: u64,
+    names: Vec<Value>,
+    values: Vec<Value>,
+    left_out: u64,
+) -> Result<Value, AllocError>
+    ensures { IfOk result (λ own. view own ≡ instance_tree class.now addr
+        (pair_trees (map view names.items) (map view values.items)) left_out) }
+{
+    let pairs = pairs_of(alloc, names, values)?;
+    instance_value(alloc, class, addr, pairs, left_out)
+}
+
 /// A value as JSON: an object whose `kind` says what it is, with its parts. The one error is want of memory.
 #[cycle(values)]
 pub fn repr_value(alloc: Global, value: &Repr) -> Result<Value, AllocError>
@@ -145,6 +163,17 @@ pub fn repr_value(alloc: Global, value: &Repr) -> Result<Value, AllocError>
         Repr::Builtin { name, addr } => named_value(alloc, "builtin", name, *addr),
         Repr::Module { name, addr } => named_value(alloc, "module", name, *addr),
         Repr::Opaque { class, addr } => opaque_value(alloc, class, *addr),
+        Repr::Instance {
+            class,
+            addr,
+            names,
+            values,
+            left_out,
+        } => {
+            let names = each_value(alloc, names)?;
+            let values = each_value(alloc, values)?;
+            instance(alloc, class, *addr, names, values, *left_out)
+        }
         Repr::Lost { kind, addr, len } => lost_value(alloc, *kind, *addr, *len),
         Repr::Damaged { kind, addr } => damaged_value(alloc, *kind, *addr),
     }

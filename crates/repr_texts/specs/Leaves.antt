@@ -72,6 +72,10 @@ module_text name = codes "<module " ++ (quoted_name name ++ codes ">")
 abbrev pub opaque_text : Option (List ℕ) → ℕ → List ℕ
 opaque_text class addr = codes "<" ++ (name_text class ++ (address_text addr ++ codes ">"))
 
+-- what stands before the attributes of an instance of a class
+unfoldable pub instance_opening : Option (List ℕ) → ℕ → List ℕ
+instance_opening class addr = codes "<" ++ (name_text class ++ (address_text addr ++ codes ": "))
+
 -- the word for a kind
 abbrev pub kind_text : Kind → List ℕ
 kind_text kind.Nothing = codes "None"

@@ -1,3 +1,4 @@
 pub mod Names
+pub mod Identifiers
 pub mod Leaves
 pub mod Writing

@@ -2,7 +2,7 @@
 -- Objects/setobject.c, Objects/rangeobject.c, Objects/sliceobject.c and their like). This project's own are: what is
 -- left out has a count; a range has its step, also of 1; a cell and a method show what they hold; a value of a class
 -- that derives from one of these is written as that one; and one that holds itself goes on to the last level.
-use Rattle.std.specs.Prelude.{◌≡◌, ℕ, ◌==◌, ◌&&◌, Bool, true, false, if◌then◌else◌, List, [], ◌∷◌, ◌++◌, codes}
+use Rattle.std.specs.Prelude.{◌≡◌, ℕ, ◌==◌, ◌&&◌, Bool, true, false, if◌then◌else◌, Option, List, [], ◌∷◌, ◌++◌, codes}
 use Rattle.std.specs.Prelude.{length, decimal, min, suc, ⊤}
 use Rattle.std.specs.Fmt.{signed_decimal}
 use Rattle.python_literals.specs.Floats.{IsComplexText, IsFloatText}
@@ -13,11 +13,12 @@ use Rattle.py_reprs.specs.Trees.{Tree, Trees}
 use Rattle.py_reprs.specs.Trees.Tree.{Absent, Nothing, Ellipsis, NotImplemented, Truth, Integer, SmallInteger}
 use Rattle.py_reprs.specs.Trees.Tree.{HugeInteger}
 use Rattle.py_reprs.specs.Trees.Tree.{Float, Complex, Text, Bytes, Items, Pairs, Class, Function, Builtin, Module}
-use Rattle.py_reprs.specs.Trees.Tree.{Opaque, Lost}
+use Rattle.py_reprs.specs.Trees.Tree.{Opaque, Instance, Lost}
 use Rattle.py_reprs.specs.Trees.Tree.{Damaged}
 use Rattle.py_reprs.specs.Trees.Trees.{no_trees, tree}
 use Rattle.repr_texts.specs.Leaves.{builtin_text, bytes_text, class_text, damaged_text, function_text, huge_text}
-use Rattle.repr_texts.specs.Leaves.{lost_text}
+use Rattle.repr_texts.specs.Identifiers.{attribute_name}
+use Rattle.repr_texts.specs.Leaves.{instance_opening, lost_text}
 use Rattle.repr_texts.specs.Leaves.{module_text, opaque_text, suffix_of, text_text, truth_text}
 
 -- what stands before the items of a container, between them, and behind them
@@ -114,6 +115,20 @@ pairs_of [] values = []
 pairs_of (key ∷ keys) [] = []
 pairs_of (key ∷ keys) (value ∷ values) = pair_text key value ∷ pairs_of keys values
 
+-- an attribute by the text of its name and that of its value
+abbrev pub attribute_text : List ℕ → List ℕ → List ℕ
+attribute_text name value = attribute_name name ++ (codes "=" ++ value)
+
+-- names and values side by side
+abbrev pub attributes_of : List (List ℕ) → List (List ℕ) → List (List ℕ)
+attributes_of [] values = []
+attributes_of (name ∷ names) [] = []
+attributes_of (name ∷ names) (value ∷ values) = attribute_text name value ∷ attributes_of names values
+
+abbrev pub instance_text : Option (List ℕ) → ℕ → List (List ℕ) → ℕ → List ℕ
+instance_text class addr parts left_out = instance_opening class addr
+    ++ (joined (codes ", ") parts ++ (more_text (codes ", ") (length parts) left_out ++ codes ">"))
+
 unfoldable mutual
   -- a text of a value
   pub Writes : Tree → List ℕ → Type 0
@@ -139,6 +154,10 @@ unfoldable mutual
   Writes (Builtin name addr) t = t ≡ builtin_text name
   Writes (Module name addr) t = t ≡ module_text name
   Writes (Opaque class addr) t = t ≡ opaque_text class addr
+  Writes (Instance class addr names values left_out) t = (ns vs : List (List ℕ)) × WriteFirst names ns
+      × WriteFirst values vs × (length ns ≡ min (count names) (count values))
+      × (length vs ≡ min (count names) (count values))
+      × (t ≡ instance_text class addr (attributes_of ns vs) left_out)
   Writes (Lost kind addr len) t = t ≡ lost_text kind addr len
   Writes (Damaged kind addr) t = t ≡ damaged_text kind addr
 
@@ -176,3 +195,9 @@ pub record AddsItems (form : ItemsForm) (left_out : ℕ) (trees : Trees) (old ne
 abbrev pub AddsDict : Tree → List ℕ → List ℕ → Type 0
 AddsDict (Pairs keys values left_out) old new = Adds (Writes (Pairs keys values left_out)) old new
 AddsDict other old new = ⊤
+
+-- an instance is added
+abbrev pub AddsInstance : Tree → List ℕ → List ℕ → Type 0
+AddsInstance (Instance class addr names values left_out) old new =
+    Adds (Writes (Instance class addr names values left_out)) old new
+AddsInstance other old new = ⊤

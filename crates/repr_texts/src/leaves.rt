@@ -1,7 +1,7 @@
 //! Values without others in them.
 ghost use Rattle.std.specs.Prelude.{◌≡◌, ◌++◌, IfOk, OnOk, string_bytes};
 ghost use Rattle.repr_texts.specs.Leaves.{builtin_opening, builtin_text, bytes_text, class_text, damaged_text};
-ghost use Rattle.repr_texts.specs.Leaves.{function_text, huge_text};
+ghost use Rattle.repr_texts.specs.Leaves.{function_text, huge_text, instance_opening};
 ghost use Rattle.repr_texts.specs.Leaves.{kind_text, lost_text, module_text, opaque_text, quoted_bytes, quoted_text};
 ghost use Rattle.repr_texts.specs.Leaves.{rest_text, suffix_of, text_text, truth_text};
 ghost use Rattle.python_literals.specs.Integers.{integer_text};
@@ -209,6 +209,22 @@ pub(crate) fn push_opaque(
     push_name(alloc, text, class)?;
     push_address(text, addr)?;
     text.push_str(">")
+}
+
+/// Appends what stands before the attributes of an instance of a class.
+#[tactic(auto, unfolding(crate::specs::Leaves::instance_opening))]
+pub(crate) fn push_instance_opening(
+    alloc: Global,
+    text: &mut String,
+    class: &Option<Text>,
+    addr: u64,
+) -> Result<(), AllocError>
+    ensures { OnOk result (string_bytes text.new ≡ string_bytes text.old ++ instance_opening class.now addr) }
+{
+    text.push_str("<")?;
+    push_name(alloc, text, class)?;
+    push_address(text, addr)?;
+    text.push_str(": ")
 }
 
 /// The word for a kind.

@@ -1,13 +1,14 @@
 //! The text of a value.
 ghost use Rattle.std.specs.Prelude.{◌≡◌, ◌++◌, OnOk, map, string_bytes};
 ghost use Rattle.py_reprs.specs.Trees.{tree_of, trees_of};
-ghost use Rattle.repr_texts.specs.Writing.{Adds, AddsFull, AddsDict, AddsItems, AddsJoined};
+ghost use Rattle.repr_texts.specs.Writing.{Adds, AddsFull, AddsDict, AddsInstance, AddsItems, AddsJoined};
 ghost use Rattle.repr_texts.specs.Writing.{Writes, between, between_text, closing};
 ghost use Rattle.repr_texts.specs.Writing.{comma_text, empty_text, is_empty_set, more_text, opening};
 
+use crate::identifiers::push_attribute_name;
 use crate::leaves::{
     push_builtin, push_bytes, push_class, push_damaged, push_digits, push_function, push_huge,
-    push_lost, push_module, push_opaque, push_text, push_truth,
+    push_instance_opening, push_lost, push_module, push_opaque, push_text, push_truth,
 };
 use py_reprs::{ItemsForm, Repr};
 use python_literals::{push_complex, push_float};
@@ -174,6 +175,7 @@ pub fn push_repr(alloc: Global, text: &mut String, value: &Repr) -> Result<(), A
         Repr::Builtin { name, .. } => push_builtin(alloc, text, name)?,
         Repr::Module { name, .. } => push_module(alloc, text, name)?,
         Repr::Opaque { class, addr } => push_opaque(alloc, text, class, *addr)?,
+        Repr::Instance { .. } => push_instance(alloc, text, value)?,
         Repr::Lost { kind, addr, len } => push_lost(text, *kind, *addr, *len)?,
         Repr::Damaged { kind, addr } => push_damaged(text, *kind, *addr)?,
     }
@@ -288,5 +290,35 @@ fn push_dict(alloc: Global, text: &mut String, value: &Repr) -> Result<(), Alloc
     }
     push_more(text, ", ", shown as u64, *left_out)?;
     text.push_str("}")?;
+    Ok(())
+}
+
+/// Appends an instance with its attributes: nothing of another value.
+#[cycle(repr)]
+fn push_instance(alloc: Global, text: &mut String, value: &Repr) -> Result<(), AllocError>
+    ensures { OnOk result (AddsInstance (tree_of value.now) (string_bytes text.old) (string_bytes text.new)) }
+{
+    let Repr::Instance {
+        class,
+        addr,
+        names,
+        values,
+        left_out,
+    } = value
+    else {
+        return Ok(());
+    };
+    let shown = names.len().min(values.len());
+    push_instance_opening(alloc, text, class, *addr)?;
+    for number in 0..shown {
+        push_between(text, ", ", number)?;
+        let mut name = String::new(alloc);
+        push_repr(alloc, &mut name, &names[number])?;
+        push_attribute_name(text, name.as_str())?;
+        text.push_str("=")?;
+        push_repr(alloc, text, &values[number])?;
+    }
+    push_more(text, ", ", shown as u64, *left_out)?;
+    text.push_str(">")?;
     Ok(())
 }

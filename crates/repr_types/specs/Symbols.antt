@@ -48,6 +48,7 @@ types_by classes types = record {
   method = each_of types 10;
   builtin = each_of types 11;
   «module» = each_of types 12;
+  instances = None;
 }
 
 -- each type by its own symbol, or by that of its object

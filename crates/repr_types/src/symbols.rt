@@ -82,6 +82,7 @@ fn types_by(classes: &[Option<u64>], types: &[Option<u64>]) -> ReprTypes
         method: each_of(types, 10),
         builtin: each_of(types, 11),
         module: each_of(types, 12),
+        instances: None,
     }
 }
 

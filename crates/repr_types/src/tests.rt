@@ -85,6 +85,7 @@ fn symbols_name_types(rt: HostRuntime) -> Result<(), Fail> {
         method: None,
         builtin: None,
         module: None,
+        instances: None,
     };
     assert!(rt; types == known);
     Ok(())

@@ -30,6 +30,11 @@ def table(*pairs, more=0):
     return items("dict", *([key, value] for key, value in pairs), more=more)
 
 
+def instance(*attributes, more=0):
+    """An instance with its attributes."""
+    return {"kind": "instance", "type": "m.C", "address": "0x10", "attributes": [list(it) for it in attributes], "more": more}
+
+
 def valued(name, tree):
     """A local with its tree."""
     return {**local(name, text_of(tree)), "value": tree}
@@ -49,6 +54,10 @@ ROWS = (
     ({"kind": "object", "type": None, "address": "0x10"}, "<? at 0x10>"), ({"kind": "class", "name": None, "address": "0x10"}, "<class ?>"),
     ({"kind": "object", "type": "x at 0x1>, 'password': 'y", "address": "0x10"}, "<\"x at 0x1>, 'password': 'y\" at 0x10>"),
     ({"kind": "function", "name": "f", "file": "a b.py", "line": 3, "address": "0x10"}, "<function f at 0x10 ('a b.py':3)>"),
+    (instance((text("id"), number(7)), (text("items"), items("list"))), "<m.C at 0x10: id=7, items=[]>"), (instance(more=3), "<m.C at 0x10: .. 3 more>"),
+    (instance((text("a b"), number(1)), (text("1a"), number(2)), (text("gr\u00f6\u00dfe"), number(3)), (number(4), number(5)), more=1),
+     "<m.C at 0x10: 'a b'=1, '1a'=2, gr\u00f6\u00dfe=3, 4=5, .. 1 more>"),
+    (instance((text("x=1, y"), number(1)), (text("it's"), number(2)), (text(""), number(3))), "<m.C at 0x10: 'x=1, y'=1, \"it's\"=2, ''=3>"),
     ({"kind": "unreadable", "of": "str", "address": "0x10", "length": 4}, "<str: 4 bytes unreadable at 0x10>"),
     ({"kind": "damaged", "of": "int", "address": "0x10"}, "<int: broken at 0x10>"), ({"kind": "new"}, "<new>"),
 )
@@ -76,6 +85,14 @@ class Hidden(unittest.TestCase):
         tree = items("list", table((text("headers"), inner), ({"kind": "bytes", "hex": b"API_KEY".hex(), "length": 7}, number(1)), (number(7), number(8))))
         self.assertEqual(text_of(hidden(tree, SECRETS)), "[{'headers': {'Authorization': <hidden>, 'host': 'x'}, b'API_KEY': <hidden>, 7: 8}]")
         self.assertEqual(hidden(tree, ("nothing",)), tree)
+
+    def test_attributes(self):
+        inner = instance((text("_Password"), text("hunter2")), (text("host"), table((text("token"), number(1)))), (text("own"), instance((text("passwd"), number(2)))))
+        self.assertEqual(text_of(hidden(items("list", inner), SECRETS)),
+                         "[<m.C at 0x10: _Password=<hidden>, host={'token': <hidden>}, own=<m.C at 0x10: passwd=<hidden>>>]")
+        row = valued("self", inner)
+        hide(salvage(interpreter([thread(1, [frame("f", rows=[row])])])), SECRETS)
+        self.assertNotIn("hunter2", json.dumps(row))
 
     def test_names(self):
         rows = [valued("db_Password", text("x")), valued("user", text("y")), local("token", "12"), local("s", "{\"cookie\": 1}"), local("t", "3"), local("cookie", None)]

@@ -1,7 +1,7 @@
 """Values of locals as `pysalvage` tells them, by their trees: what is hidden of them, and the text of one of which a part is hidden.
 
-A value is hidden where its name, or the key of a dict under which it stands, holds one of some words, in whatever case. That is no
-promise: what stands under other names, or within a text, is shown.
+A value is hidden where its name, the key of a dict under which it stands or the name of its attribute holds one of some words, in
+whatever case. That is no promise: what stands under other names, or within a text, is shown.
 """
 
 from typing import Callable, Dict, Iterable, Iterator, List, Sequence, Tuple
@@ -14,6 +14,9 @@ SECRETS = ("password", "passwd", "secret", "token", "authorization", "cookie", "
 HIDDEN = "<hidden>"
 """The text of a hidden value."""
 
+WORD = "0123456789ABCDEFGHIJKLMNOPQRSTUVWXYZabcdefghijklmnopqrstuvwxyz_"
+"""The characters of ASCII that identifiers have."""
+
 HIDDEN_TREE: Tree = {"kind": "hidden"}
 
 LEVELS = 64
@@ -25,6 +28,9 @@ BRACKETS: Dict[str, Tuple[str, str, str]] = {
     "dict": ("{", ", ", "}"),
 }
 """What stands before the items of a container, between them and behind them."""
+
+PARTS = {"dict": "items", "instance": "attributes"}
+"""Where values have pairs of a name and what it names."""
 
 EMPTY = {"set": "set()", "frozenset": "frozenset()"}
 
@@ -102,6 +108,20 @@ LEAVES: Dict[str, Callable[[Tree], str]] = {
 """The texts of values that hold no others, by their kinds."""
 
 
+def attribute_name(text: str) -> str:
+    """The name of an attribute by its text: an identifier has no quotes."""
+    inner = text[1:-1]
+    plain = inner and all(it in WORD or it > "\x7f" for it in inner) and inner[0] not in "0123456789"
+    return inner if plain and text[0] == text[-1] == "'" else text
+
+
+def instance_text(tree: Tree, levels: int) -> str:
+    """An instance by its attributes that are shown."""
+    parts = [f"{attribute_name(text_of(name, levels))}={text_of(value, levels)}" for name, value in tree["attributes"]]
+    rest = [f".. {tree['more']} more"] * (tree["more"] > 0)
+    return f"<{named(tree, 'type')} at {tree['address']}: {', '.join(parts + rest)}>"
+
+
 def text_of(tree: Tree, levels: int = LEVELS) -> str:
     """The text of a value. One of a kind that isn't known here is told by its kind."""
     kind = tree["kind"]
@@ -110,6 +130,8 @@ def text_of(tree: Tree, levels: int = LEVELS) -> str:
         if kind == "dict":
             return items_text(tree, [f"{text_of(key, levels - 1)}: {text_of(value, levels - 1)}" for key, value in rows])
         return items_text(tree, [text_of(it, levels - 1) for it in rows])
+    if kind == "instance" and levels:
+        return instance_text(tree, levels - 1)
     return LEAVES[kind](tree) if kind in LEAVES else f"<{kind}>"
 
 
@@ -131,16 +153,17 @@ def hidden_pair(pair: List[Tree], words: Sequence[str], levels: int) -> List[Tre
 
 
 def hidden(tree: Tree, words: Sequence[str], levels: int = LEVELS) -> Tree:
-    """A value in which what stands under keys that hold one of the words is hidden."""
-    if not levels or not isinstance(tree.get("items"), list):
+    """A value in which what stands under keys, or as attributes, that hold one of the words is hidden."""
+    part = PARTS.get(tree["kind"], "items")
+    if not levels or not isinstance(tree.get(part), list):
         return tree
-    if tree["kind"] == "dict":
-        return {**tree, "items": [hidden_pair(it, words, levels - 1) for it in tree["items"]]}
+    if tree["kind"] in PARTS:
+        return {**tree, part: [hidden_pair(it, words, levels - 1) for it in tree[part]]}
     return {**tree, "items": [hidden(it, words, levels - 1) for it in tree["items"]]}
 
 
 def hide_row(row: Tree, words: Sequence[str]) -> None:
-    """Hides a local's value, or what its dicts hold under such keys. Of a value without a tree, which `dump` told, all is hidden where it
+    """Hides a local's value, or what its dicts and instances hold under such names. Of a value without a tree, which `dump` told, all is hidden where it
     holds a word."""
     tree = row.get("value")
     if holds(row["name"], words) or tree is None and row["repr"] is not None and holds(row["repr"], words):

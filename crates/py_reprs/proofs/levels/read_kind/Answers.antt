@@ -101,4 +101,4 @@ returns-in-Module-clause-answer g c = rw c.in-Module.is (reads_within _ c.read_l
 
 pub returns-in-Other-clause-answer : goal.returns-in-Other-clause-answer
 unfolding kind_level_at
-returns-in-Other-clause-answer g c = rw c.in-Other.is (reads_within _ c.read_leaf_level-in-Other.ensures.answer (omega arith))
+returns-in-Other-clause-answer g c = rw c.in-Other.is (reads_within _ c.read_other.ensures.answer (omega arith))

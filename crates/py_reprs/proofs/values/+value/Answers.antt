@@ -3,7 +3,7 @@ use Rattle.std.proofs.lemmas.List.{map-append}
 use Rattle.std.proofs.lemmas.Result.{err_from_is_err_and}
 use Rattle.process_memory.proofs.Reading.{reading_gives, reading_none, reading_then}
 use Rattle.py_reprs.proofs.Mapping.{mapping_init, mapping_lost, mapping_more}
-use Rattle.py_reprs.proofs.Opening.{both_fit, entries_opened, level_fits, read_as, repr_closed, repr_opened, row_fits}
+use Rattle.py_reprs.proofs.Opening.{both_fit, attributes_opened, entries_opened, level_fits, read_as, repr_closed, repr_opened, row_fits}
 use Rattle.py_reprs.proofs.Opening.{reading_and, row_opened, whole_opened}
 use Rattle.py_reprs.proofs.Views.{tree-Lost}
 use Rattle.py_reprs.specs.Trees.{tree_of}
@@ -92,6 +92,41 @@ read_opened-returns-in_ok-values-in-Entries g t c =
     c.in-Entries.keys c.in-Entries.values c.in-Entries.share c.in-Entries.left_out c.in_ok-keys-in-Entries.keys
     c.in_ok-values-in-Entries.values c.in-Entries.is a b.0 b.1))
     (both_fit c.args.limits.now _ _ c.in-Entries.share c.args.nodes few) (λ m h. h)
+
+pub read_opened-returns-in_err-names-in-Attributes : goal.read_opened-returns-in_err-names-in-Attributes
+read_opened-returns-in_err-names-in-Attributes g t c =
+    let p = err_from_is_err_and c.from_residual-in_err-names-in-Attributes.result
+    c.from_residual-in_err-names-in-Attributes.ensures.1 in
+    let few = rw c.in-Attributes.is at c.in_ok-level.ensures.few in
+    let names = rw c.deref-in-Attributes.ensures.value at c.in_err-names-in-Attributes.ensures in
+    rw p.1 (reading_gives _ _ (reading_then _ c.in_ok-level.ensures.answer names (λ m a b. b))
+    (omega (
+      arith,
+      both_fit c.args.limits.now (length c.in-Attributes.names.items) (length c.in-Attributes.values.items)
+          c.in-Attributes.share c.args.nodes few,
+    )) (λ m h. tt))
+
+pub read_opened-returns-in_err-values-in-Attributes : goal.read_opened-returns-in_err-values-in-Attributes
+read_opened-returns-in_err-values-in-Attributes g t c =
+    let p = err_from_is_err_and c.from_residual-in_err-values-in-Attributes.result
+    c.from_residual-in_err-values-in-Attributes.ensures.1 in
+    let few = rw c.in-Attributes.is at c.in_ok-level.ensures.few in
+    let names = rw c.deref-in-Attributes.ensures.value at c.in_ok-names-in-Attributes.ensures in
+    let values = rw c.deref-in-Attributes-2.ensures.value at c.in_err-values-in-Attributes.ensures in
+    rw p.1 (reading_gives _ _ (reading_then _ c.in_ok-level.ensures.answer (reading_then _ names values (λ m a b. b))
+    (λ m a b. b)) (both_fit c.args.limits.now _ _ c.in-Attributes.share c.args.nodes few) (λ m h. tt))
+
+pub read_opened-returns-in_ok-values-in-Attributes : goal.read_opened-returns-in_ok-values-in-Attributes
+read_opened-returns-in_ok-values-in-Attributes g t c =
+    let few = rw c.in-Attributes.is at c.in_ok-level.ensures.few in
+    let names = rw c.deref-in-Attributes.ensures.value at c.in_ok-names-in-Attributes.ensures in
+    let values = rw c.deref-in-Attributes-2.ensures.value at c.in_ok-values-in-Attributes.ensures in
+    reading_gives _ _ (reading_then _ c.in_ok-level.ensures.answer (reading_and names values)
+    (λ m a b. attributes_opened
+    (λ s x. repr_at c.args.layout.now c.args.types.now c.args.limits.now m c.args.levels s x) c.in_ok-level.level
+    c.in-Attributes.class c.in-Attributes.at c.in-Attributes.names c.in-Attributes.values c.in-Attributes.share c.in-Attributes.left_out c.in_ok-names-in-Attributes.names
+    c.in_ok-values-in-Attributes.values c.in-Attributes.is a b.0 b.1))
+    (both_fit c.args.limits.now _ _ c.in-Attributes.share c.args.nodes few) (λ m h. h)
 
 pub read_placed-returns-in-Gap : goal.read_placed-returns-in-Gap
 read_placed-returns-in-Gap g t c = rw c.in-Gap.is (reading_none _ _ _ (λ m. tree-Lost _ _ _))

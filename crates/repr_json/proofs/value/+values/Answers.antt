@@ -8,7 +8,7 @@ use Rattle.py_reprs.specs.Trees.Trees.{no_trees}
 use Rattle.py_reprs.proofs.Views.{tree-Absent, tree-Nothing, tree-Ellipsis, tree-NotImplemented, tree-Truth}
 use Rattle.py_reprs.proofs.Views.{tree-Integer, tree-SmallInteger, tree-HugeInteger, tree-Float, tree-Complex}
 use Rattle.py_reprs.proofs.Views.{tree-Text, tree-Bytes, tree-Items, tree-Pairs, tree-Class, tree-Function}
-use Rattle.py_reprs.proofs.Views.{tree-Builtin, tree-Module, tree-Opaque, tree-Lost, tree-Damaged}
+use Rattle.py_reprs.proofs.Views.{tree-Builtin, tree-Module, tree-Opaque, tree-Instance, tree-Lost, tree-Damaged}
 use Rattle.repr_json.specs.Leaves.{bytes_tree, integer_tree, text_tree}
 use Rattle.repr_json.specs.Trees.{AreJson, IsJson, items_tree, items_kind}
 use Rattle.repr_json.proofs.Parts.{more_at, none_is}
@@ -191,3 +191,18 @@ repr_value-returns-in_ok-values-in-Pairs t c =
     (subst (λ tree. IfOk c.dict.result (λ own. IsJson tree (view own)))
     (sym (tree-Pairs c.in-Pairs.keys c.in-Pairs.values c.in-Pairs.left_out))
     (if_ok c.dict.result (λ own is. (ks, vs, each_key, each_value, is)) c.dict.ensures))
+
+pub repr_value-returns-in_ok-values-in-Instance : goal.repr_value-returns-in_ok-values-in-Instance
+unfolding IsJson
+repr_value-returns-in_ok-values-in-Instance t c =
+    let ns = map view c.in_ok-names-in-Instance.names.items in
+    let vs = map view c.in_ok-values-in-Instance.values.items in
+    let each_name = subst (λ xs. AreJson (trees_of (map tree_of xs)) ns) c.deref-in-Instance.ensures.value
+    c.in_ok-names-in-Instance.ensures in
+    let each_value = subst (λ xs. AreJson (trees_of (map tree_of xs)) vs) c.deref-in-Instance-2.ensures.value
+    c.in_ok-values-in-Instance.ensures in
+    subst (λ v. IfOk c.instance.result (λ own. IsJson (tree_of v) (view own))) (sym c.in-Instance.is)
+    (subst (λ tree. IfOk c.instance.result (λ own. IsJson tree (view own)))
+    (sym (tree-Instance c.in-Instance.class c.in-Instance.addr c.in-Instance.names c.in-Instance.values
+    c.in-Instance.left_out))
+    (if_ok c.instance.result (λ own is. (ns, vs, each_name, each_value, is)) c.instance.ensures))

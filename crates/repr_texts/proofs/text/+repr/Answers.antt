@@ -9,13 +9,15 @@ use Rattle.py_reprs.proofs.Views.{tree-Integer}
 use Rattle.py_reprs.proofs.Views.{tree-SmallInteger, tree-HugeInteger, tree-Float, tree-Complex, tree-Text}
 use Rattle.py_reprs.proofs.Views.{tree-Bytes, tree-Items}
 use Rattle.py_reprs.proofs.Views.{tree-Pairs, tree-Class, tree-Function, tree-Builtin, tree-Module, tree-Opaque}
-use Rattle.py_reprs.proofs.Views.{tree-Lost, tree-Damaged}
+use Rattle.py_reprs.proofs.Views.{tree-Instance, tree-Lost, tree-Damaged}
 use Rattle.repr_texts.specs.Leaves.{builtin_text, bytes_text, class_text, damaged_text, function_text, huge_text}
 use Rattle.repr_texts.specs.Leaves.{lost_text}
 use Rattle.repr_texts.specs.Leaves.{module_text, opaque_text, suffix_of, text_text, truth_text}
-use Rattle.repr_texts.specs.Writing.{AddsDict, AddsItems, Adds, WriteFirst, Writes, count, full_text, is_empty_set}
-use Rattle.repr_texts.specs.Writing.{items_text, joined, more_text, pairs_of, pairs_text}
+use Rattle.repr_texts.specs.Writing.{AddsDict, AddsInstance, AddsItems, Adds, WriteFirst, Writes, count, full_text, is_empty_set}
+use Rattle.repr_texts.specs.Writing.{attributes_of, instance_text, items_text, joined, more_text, pairs_of, pairs_text}
 use Rattle.repr_texts.proofs.Parts.{both_counted, counted, dict_added, empty_is, first_more_at, first_none, full_added}
+use Rattle.repr_texts.specs.Identifiers.{attribute_name}
+use Rattle.repr_texts.proofs.Attributing.{attribute_added, attributes_length, instance_added}
 use Rattle.repr_texts.proofs.Parts.{items_empty, items_full, pair_added, pairs_length, part_added}
 use Rattle.repr_texts.proofs.text.+repr.Goals as goal
 
@@ -365,6 +367,82 @@ push_dict-returns t c =
         inv.each_key,
         inv.each_value,
         inv.all_keys ∙ omega (arith, end, within) ∙ c.min-shown.ensures ∙ shown_is,
+        inv.all_values ∙ omega (arith, end, within) ∙ c.min-shown.ensures ∙ shown_is,
+        refl,
+      ),
+    ))
+
+pub push_instance-loop-number-init : goal.push_instance-loop-number-init
+push_instance-loop-number-init t c = record {
+  ns = [];
+  vs = [];
+  each_name = first_none c.in-Instance.names.items;
+  each_value = first_none c.in-Instance.values.items;
+  all_names = refl;
+  all_values = refl;
+  is = sym (append-nil (string_bytes c.push_instance_opening.new.text));
+}
+
+pub push_instance-loop-number-preserved : goal.push_instance-loop-number-preserved
+push_instance-loop-number-preserved t c =
+    let inv = c.loop-number.invariant in
+    let names = c.in-Instance.names.items in
+    let values = c.in-Instance.values.items in
+    let name = c.in_ok-push_repr.ensures in
+    let value = c.in_ok-push_repr-2.ensures in
+    let inside = c.loop-number-test.true in
+    let named = c.as_str.ensures.value ∙ name.1 ∙ ap (λ xs. xs ++ name.0) c.new-name.ensures.bytes in
+    record {
+      ns = inv.ns ++ name.0 ∷ [];
+      vs = inv.vs ++ value.0 ∷ [];
+      each_name = first_more_at names inv.ns name.0 c.index.result.now c.index.result.now c.loop-number.number
+          inv.each_name inv.all_names (omega (arith, inside, c.min-shown.ensures)) c.index.ensures name.2;
+      each_value = first_more_at values inv.vs value.0 c.index-in-loop-number.result.now
+          c.index-in-loop-number.result.now c.loop-number.number inv.each_value
+          inv.all_values (omega (arith, inside, c.min-shown.ensures)) c.index-in-loop-number.ensures value.2;
+      all_names = length-append inv.ns (name.0 ∷ []) ∙ omega (arith, inv.all_names);
+      all_values = length-append inv.vs (value.0 ∷ []) ∙ omega (arith, inv.all_values);
+      is = attribute_added (string_bytes c.push_instance_opening.new.text) name.0 value.0 (string_bytes c.loop-number.text)
+          (string_bytes c.push_between.new.text) (string_bytes c.push_attribute_name.new.text)
+          (string_bytes c.push_str.new.self) (string_bytes c.push_repr-in-loop-number.new.text)
+          inv.ns inv.vs c.loop-number.number inv.all_names inv.all_values inv.is c.in_ok-push_between.ensures
+          (c.in_ok-push_attribute_name.ensures
+          ∙ ap (λ xs. string_bytes c.push_between.new.text ++ attribute_name xs) named)
+          c.in_ok-push_str.ensures.bytes value.1;
+    }
+
+pub push_instance-returns : goal.push_instance-returns
+unfolding Writes
+push_instance-returns t c =
+    let inv = c.loop-number.invariant in
+    let names = c.in-Instance.names.items in
+    let values = c.in-Instance.values.items in
+    let class = c.in-Instance.class in
+    let addr = c.in-Instance.addr in
+    let shown = instance_text class addr (attributes_of inv.ns inv.vs) c.in-Instance.left_out in
+    let end = c.loop-number-test.false in
+    let within = c.loop-number.auto.number-end in
+    let name_count : c.len.result ≡ length names = omega (arith, c.len.ensures) in
+    let value_count : c.len-2.result ≡ length values = omega (arith, c.len-2.ensures) in
+    let shown_is = ap (λ n. min n c.len-2.result) name_count ∙ ap (λ n. min (length names) n) value_count
+    ∙ both_counted names values in
+    subst (λ v. AddsInstance (tree_of v) (string_bytes c.args.text.now) (string_bytes c.push_str-2.new.self))
+    (sym c.in-Instance.is)
+    (subst (λ tree. AddsInstance tree (string_bytes c.args.text.now) (string_bytes c.push_str-2.new.self))
+    (sym (tree-Instance class addr c.in-Instance.names c.in-Instance.values c.in-Instance.left_out)) (
+      shown,
+      instance_added class addr (string_bytes c.args.text.now) (string_bytes c.push_instance_opening.new.text)
+          (string_bytes c.loop-number.text) (string_bytes c.push_more.new.text) (string_bytes c.push_str-2.new.self)
+          inv.ns inv.vs c.min-shown.result c.in-Instance.left_out c.in_ok-push_instance_opening.ensures inv.is
+          c.in_ok-push_more.ensures c.in_ok-push_str-2.ensures.bytes
+          (attributes_length inv.ns inv.vs c.min-shown.result (inv.all_names ∙ omega (arith, end, within))
+          (inv.all_values ∙ omega (arith, end, within))),
+      (
+        inv.ns,
+        inv.vs,
+        inv.each_name,
+        inv.each_value,
+        inv.all_names ∙ omega (arith, end, within) ∙ c.min-shown.ensures ∙ shown_is,
         inv.all_values ∙ omega (arith, end, within) ∙ c.min-shown.ensures ∙ shown_is,
         refl,
       ),
