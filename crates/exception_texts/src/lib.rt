@@ -14,6 +14,6 @@ mod told;
 mod tree;
 mod values;
 
-pub use text::push_exceptions;
+pub use text::{push_exceptions, push_named};
 pub use told::{ExceptionsOf, InterpreterExceptions, ThreadTold};
 pub use tree::exceptions_value;

@@ -127,7 +127,7 @@ pub(crate) fn push_known_class(
 }
 
 /// The name of a class.
-pub(crate) fn push_named(
+pub fn push_named(
     alloc: Global,
     text: &mut String,
     class: &Option<ClassName>,

@@ -36,11 +36,10 @@ fn push_classes(alloc: Global, text: &mut String, classes: &[HeapClass]) -> Resu
 fn first_of(classes: &[HeapClass]) -> &[HeapClass]
     ensures { result.now ≡ take most_lines classes.now }
 {
-    if classes.len() > MOST_LINES {
-        &classes[..MOST_LINES]
-    } else {
-        classes
+    if classes.len() <= MOST_LINES {
+        return classes;
     }
+    &classes[..MOST_LINES]
 }
 
 /// What a heap holds.

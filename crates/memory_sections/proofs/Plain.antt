@@ -14,9 +14,11 @@ use Rattle.exception_texts.proofs.Plain.{no_float as all_exceptions}
 use Rattle.exception_texts.specs.declared.told.InterpreterExceptions.{InterpreterExceptions}
 use Rattle.py_waits.proofs.Plain.{no_float as all_waits}
 use Rattle.py_waits.specs.declared.told.InterpreterWaits.{InterpreterWaits}
+use Rattle.heap_texts.proofs.Plain.{no_float as all_heaps}
+use Rattle.py_heap.specs.declared.heap.Heaps.{Heaps}
 use Rattle.paired_stacks.proofs.Plain.{no_float as all_paired}
 use Rattle.paired_stacks.specs.declared.stack.PairedStack.{PairedStack}
-use Rattle.memory_sections.specs.Values.{exceptions_tree_if, names_tree_if, native_tree_if, paired_tree_if}
+use Rattle.memory_sections.specs.Values.{exceptions_tree_if, heap_tree_if, names_tree_if, native_tree_if, paired_tree_if}
 use Rattle.memory_sections.specs.Values.{tasks_tree_if, waits_tree_if}
 
 pub names : (told : Option (Vec InterpreterNames Global)) → has_float (names_tree_if told) ≡ false
@@ -42,3 +44,7 @@ native limit (Some told) = stacks limit (stacks_shown told)
 pub paired : (told : Option (Vec (Option PairedStack) Global)) → has_float (paired_tree_if told) ≡ false
 paired None = refl
 paired (Some told) = all_paired told.items
+
+pub heap : (told : Option Heaps) → has_float (heap_tree_if told) ≡ false
+heap None = refl
+heap (Some told) = all_heaps told

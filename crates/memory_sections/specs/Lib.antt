@@ -1,5 +1,6 @@
 pub mod Each
 pub mod Exceptions
+pub mod Heap
 pub mod Locals
 pub mod Pairs
 pub mod Pythons

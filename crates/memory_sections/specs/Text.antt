@@ -15,6 +15,8 @@ use Rattle.task_texts.specs.declared.told.InterpreterTasks.{InterpreterTasks}
 use Rattle.thread_names.specs.Trees.{fault_word, thread_fault_word}
 use Rattle.thread_names.specs.declared.names.InterpreterNames.{InterpreterNames}
 use Rattle.thread_names.specs.declared.names.ThreadName.{ThreadName}
+use Rattle.heap_texts.specs.Text.{heaps_text}
+use Rattle.py_heap.specs.declared.heap.Heaps.{Heaps}
 use Rattle.py_waits.specs.Text.{waits_text as all_waits_text}
 use Rattle.py_waits.specs.declared.told.InterpreterWaits.{InterpreterWaits}
 use Rattle.memory_sections.specs.declared.told.MemoryTold.{MemoryTold}
@@ -97,7 +99,13 @@ abbrev pub native_text : (limit : ℕ) → Option NativeStacks → List ℕ
 native_text limit None = []
 native_text limit (Some stacks) = stacks_text limit (stacks_shown stacks)
 
+-- ---- what heaps hold
+
+abbrev pub heap_text : Option Heaps → List ℕ
+heap_text None = []
+heap_text (Some heaps) = heaps_text heaps
+
 -- all of them, in order
 abbrev pub memory_text : (limit : ℕ) → MemoryTold → List ℕ
 memory_text limit told = names_text told.names ++ (tasks_text told.tasks ++ (exceptions_text told.exceptions
-    ++ (waits_text told.waits ++ native_text limit told.native)))
+    ++ (waits_text told.waits ++ (native_text limit told.native ++ heap_text told.heap))))

@@ -32,6 +32,7 @@ use Rattle.memory_sections.specs.Pythons.{python_threads}
 use Rattle.memory_sections.specs.Each.{EachTold}
 pub use Rattle.memory_sections.specs.Each.{ToldIf}
 use Rattle.memory_sections.specs.Exceptions.{ExceptionsAre}
+use Rattle.memory_sections.specs.Heap.{HeapIs}
 use Rattle.memory_sections.specs.Locals.{ValuesAre}
 use Rattle.memory_sections.specs.Pairs.{PairsAre}
 use Rattle.py_fields.specs.declared.version.Version.{Version}
@@ -113,3 +114,4 @@ pub record AreMemoryTold (asked : Sections) (times : ℕ) (bytes : List ℕ) (im
   pub native : NativeAre asked.native asked.strict bytes images m is told.native
   pub stacks : PairsAre bytes k v l r m is told.native told.stacks
   pub values : ValuesAre times k l m is told.values
+  pub heap : HeapIs asked.heap k v l r m is told.heap

@@ -9,6 +9,8 @@ use Rattle.paired_stacks.specs.Trees.{all_tree as paired_tree}
 use Rattle.paired_stacks.specs.declared.stack.PairedStack.{PairedStack}
 use Rattle.exception_texts.specs.Trees.{all_exceptions_tree}
 use Rattle.exception_texts.specs.declared.told.InterpreterExceptions.{InterpreterExceptions}
+use Rattle.heap_texts.specs.Trees.{heaps_tree}
+use Rattle.py_heap.specs.declared.heap.Heaps.{Heaps}
 use Rattle.py_waits.specs.Trees.{waits_tree}
 use Rattle.py_waits.specs.declared.told.InterpreterWaits.{InterpreterWaits}
 use Rattle.task_texts.specs.Trees.{all_tasks_tree}
@@ -39,3 +41,7 @@ native_tree_if limit (Some stacks) = stacks_tree limit (stacks_shown stacks)
 abbrev pub paired_tree_if : Option (Vec (Option PairedStack) Global) → Data
 paired_tree_if None = null
 paired_tree_if (Some stacks) = paired_tree stacks.items
+
+abbrev pub heap_tree_if : Option Heaps → Data
+heap_tree_if None = null
+heap_tree_if (Some heaps) = heaps_tree heaps

@@ -1,6 +1,6 @@
 //! The lines of these sections.
 ghost use Rattle.std.specs.Prelude.{◌≡◌, ◌++◌, OnOk, string_bytes};
-ghost use Rattle.memory_sections.specs.Text.{all_names_text, exceptions_text, fault_lead, fault_text};
+ghost use Rattle.memory_sections.specs.Text.{all_names_text, exceptions_text, fault_lead, fault_text, heap_text};
 ghost use Rattle.memory_sections.specs.Text.{interpreter_text, lead_text, lost_lead, lost_text, memory_text};
 ghost use Rattle.memory_sections.specs.Text.{name_text, names_text, native_text, tasks_text, thread_text};
 ghost use Rattle.memory_sections.specs.Text.{threads_text, unread_lead, unread_text, waits_text};
@@ -8,7 +8,9 @@ ghost use Rattle.memory_sections.specs.Text.{threads_text, unread_lead, unread_t
 use crate::told::MemoryTold;
 use elf64_core::Text;
 use exception_texts::{InterpreterExceptions, push_exceptions};
+use heap_texts::push_heaps;
 use native_stacks::{NativeStacks, push_native_stacks};
+use py_heap::Heaps;
 use py_names::NamesError;
 use py_waits::{InterpreterWaits, push_waits};
 use salvage_texts::push_escaped;
@@ -213,12 +215,23 @@ fn push_native(
     }
 }
 
+/// What heaps hold, where it is asked for.
+fn push_heap(alloc: Global, text: &mut String, heaps: &Option<Heaps>) -> Result<(), AllocError>
+    ensures { OnOk result (string_bytes text.new ≡ string_bytes text.old ++ heap_text heaps.now) }
+{
+    match heaps {
+        Some(heaps) => push_heaps(alloc, text, heaps),
+        None => Ok(()),
+    }
+}
+
 /// Appends the lines of the sections that are asked for, in this order: of each thread with a name `Name of thread
 /// 0x7F..: NAME`, and of each whose name can't be read why; of each interpreter of which none can be read why, and how
 /// many slots may have a thread whose id is not known; the tasks of each interpreter
 /// (`task_texts::push_tasks`); the exceptions of the threads of each (`exception_texts::push_exceptions`); what each
 /// thread waits for (`py_waits::push_waits`); the native stacks (`native_stacks::push_native_stacks`), of each the
-/// first and the last `limit` frames. The one error is want of memory.
+/// first and the last `limit` frames; and what the heaps hold (`heap_texts::push_heaps`). The one error is want of
+/// memory.
 pub fn push_memory(
     alloc: Global,
     text: &mut String,
@@ -231,5 +244,6 @@ pub fn push_memory(
     push_own_tasks(alloc, text, &told.tasks)?;
     push_own_exceptions(alloc, text, &told.exceptions)?;
     push_own_waits(text, &told.waits)?;
-    push_native(alloc, text, limit, &told.native)
+    push_native(alloc, text, limit, &told.native)?;
+    push_heap(alloc, text, &told.heap)
 }

@@ -7,6 +7,7 @@ ghost use Rattle.py_process.specs.Facts.{known_of};
 ghost use Rattle.memory_sections.specs.Told.{AreMemoryTold, names_given};
 
 use crate::exceptions::exceptions_section;
+use crate::heap::heap_section;
 use crate::locals::values_section;
 use crate::names::names_section;
 use crate::native::native_section;
@@ -21,6 +22,7 @@ use missed_reads::Misses;
 use native_stacks::NativeStacks;
 use paired_stacks::PairedStack;
 use py_fronts::SalvagedInterpreter;
+use py_heap::Heaps;
 use py_records::Records;
 use py_waits::InterpreterWaits;
 use salvage_words::Sections;
@@ -45,6 +47,8 @@ pub struct MemoryTold {
     pub stacks: Option<Vec<Option<PairedStack>>>,
     /// The values of the locals of the frames that are shown.
     pub values: Option<LocalValues>,
+    /// The objects of each interpreter's heap, by class.
+    pub heap: Option<Heaps>,
 }
 
 /// The names of the threads, by interpreters; none where they are not asked for.
@@ -98,6 +102,7 @@ pub fn tell_memory(
     )?;
     let stacks = pairs_section(alloc, process, records, &native, interpreters, misses)?;
     let values = values_section(alloc, times, process, misses, interpreters)?;
+    let heap = heap_section(alloc, asked.heap, process, records, misses, interpreters)?;
     Ok(MemoryTold {
         names,
         tasks,
@@ -106,5 +111,6 @@ pub fn tell_memory(
         native,
         stacks,
         values,
+        heap,
     })
 }

@@ -1,8 +1,8 @@
 //! The values of these sections in JSON: null in one that isn't asked for.
 ghost use Rattle.std.specs.Prelude.{◌≡◌, IfOk};
 ghost use Rattle.serde_json.specs.View.{view};
-ghost use Rattle.memory_sections.specs.Values.{exceptions_tree_if, names_tree_if, native_tree_if, tasks_tree_if};
-ghost use Rattle.memory_sections.specs.Values.{paired_tree_if, waits_tree_if};
+ghost use Rattle.memory_sections.specs.Values.{exceptions_tree_if, heap_tree_if, names_tree_if, native_tree_if};
+ghost use Rattle.memory_sections.specs.Values.{paired_tree_if, tasks_tree_if, waits_tree_if};
 
 use crate::told::MemoryTold;
 use serde_json::Value;
@@ -66,6 +66,16 @@ pub fn paired_value(alloc: Global, told: &MemoryTold) -> Result<Value, AllocErro
 {
     match &told.stacks {
         Some(stacks) => paired_stacks::paired_value(alloc, stacks),
+        None => Ok(Value::Null),
+    }
+}
+
+/// What the heaps hold (`heap_texts::heaps_value`), or null. The one error is want of memory.
+pub fn heap_value(alloc: Global, told: &MemoryTold) -> Result<Value, AllocError>
+    ensures { IfOk result (λ value. view value ≡ heap_tree_if told.now.heap) }
+{
+    match &told.heap {
+        Some(heaps) => heap_texts::heaps_value(alloc, heaps),
         None => Ok(Value::Null),
     }
 }

@@ -252,7 +252,7 @@ fn own_places(
 }
 
 /// The address of the runtime's record, where a symbol tells it.
-fn runtime_of(process: &Process) -> Option<u64>
+pub(crate) fn runtime_of(process: &Process) -> Option<u64>
     ensures { result ≡ symbol_known (known_of process.now.info) (codes "_PyRuntime") }
 {
     match process.info.get_symbol(b"_PyRuntime") {

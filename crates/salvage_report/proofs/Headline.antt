@@ -26,7 +26,7 @@ use Rattle.salvage_words.specs.Salvage.Wanted.{salvage}
 use Rattle.salvage_report.specs.declared.cause.Cause.{Cause}
 use Rattle.salvage_report.specs.Headline.{AreTables, HasSalvaged, SaysLayout, SaysNames, SaysRegisters}
 use Rattle.salvage_report.specs.Headline.{SaysExceptions, SaysNative, SaysSignal, SaysStacks, SaysTasks, SaysValues}
-use Rattle.salvage_report.specs.Headline.{SaysWaits}
+use Rattle.salvage_report.specs.Headline.{SaysHeap, SaysWaits}
 use Rattle.memory_sections.specs.Told.{ToldIf}
 use Rattle.py_fronts.specs.declared.search.Looked.{Looked}
 use Rattle.salvage_report.specs.Outcome.{IsCoreOutcome, IsOutcomeBy, IsSalvagedBy, Outcome, shown_or_none}
@@ -221,6 +221,12 @@ says_stacks s told old new h asked =
     let one = paired_one h.core k v l r m is native.0 h.left.memory.stacks
     (subst (λ n. PairsAre h.core k v l r m is n h.left.memory.stacks) native.1 h.is_left.memory.stacks) in
     record { has = h; natives = native.0; natives_are = native.1; stacks = one.0; is = one.1; are = one.2 }
+
+pub says_heap : (s : Salvage) (told : Told) (old new : SinkSeen) → HasSalvaged s told old new
+    → s.sections.heap ≡ true → SaysHeap s told old new
+says_heap s told old new h asked =
+    let one = told_one s.sections.heap _ h.left.memory.heap h.is_left.memory.heap asked in
+    record { has = h; heaps = one.0; is = one.1; are = one.2 }
 
 pub says_values : (s : Salvage) (told : Told) (old new : SinkSeen) → HasSalvaged s told old new
     → s.locals ≢ 0 → SaysValues s told old new

@@ -21,7 +21,7 @@ use Rattle.memory_sections.specs.Told.{names_given}
 use Rattle.memory_sections.specs.Values.{waits_tree_if}
 use Rattle.py_waits.specs.declared.told.InterpreterWaits.{InterpreterWaits}
 use Rattle.salvage_json.proofs.Trees.{ended, integer, interpreters, process, signal}
-use Rattle.memory_sections.proofs.Plain.{exceptions, names, native, paired, tasks, waits}
+use Rattle.memory_sections.proofs.Plain.{exceptions, heap, names, native, paired, tasks, waits}
 use Rattle.missed_reads.specs.Told.{RefusedTold, missed_tree}
 use Rattle.missed_reads.proofs.NoFloat.{no_float as missed}
 use Rattle.py_selftest.specs.Checking.{CheckShown}
@@ -102,7 +102,7 @@ counted (Some n) version named w = λ i. false || (false || (false || (waits w i
 
 pub no_float : (limit : ℕ) (left : Left) → HasNoFloat left.values → has_float (left_tree limit left) ≡ false
 no_float limit left plain = λ i. exceptions left.memory.exceptions i
-    || (interpreters left.values plain left.salvaged.crash (names_given left.memory.names)
+    || (heap left.memory.heap i || (interpreters left.values plain left.salvaged.crash (names_given left.memory.names)
     left.salvaged.interpreters.items i
     || (check_section (check_of left.check) i || (missing_section (missing_shown left.told.missing) i
     || (false || (names left.memory.names i || (native limit left.memory.native i || (process left.process
@@ -110,4 +110,4 @@ no_float limit left plain = λ i. exceptions left.memory.exceptions i
     || (signal left.signal i || (info_section left.told.signal i || (paired left.memory.stacks i
     || (tasks left.memory.tasks i
     || counted (values_left_out left.memory.values) (told_version left.named left.version) left.named
-    left.memory.waits i)))))))))))))
+    left.memory.waits i))))))))))))))

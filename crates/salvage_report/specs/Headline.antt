@@ -23,7 +23,9 @@ use Rattle.py_process.specs.Reports.{memory_in}
 use Rattle.thread_names.specs.declared.names.InterpreterNames.{InterpreterNames}
 use Rattle.memory_sections.specs.Each.{EachTold}
 use Rattle.memory_sections.specs.Exceptions.{AreExceptions}
+use Rattle.memory_sections.specs.Heap.{AreHeaps}
 use Rattle.memory_sections.specs.Pairs.{ArePairs}
+use Rattle.py_heap.specs.declared.heap.Heaps.{Heaps}
 use Rattle.memory_sections.specs.Waits.{AreWaits}
 use Rattle.memory_sections.specs.Told.{AreNamesOf, AreNative, AreTasksOf, rule_of, slot_share}
 use Rattle.native_stacks.specs.declared.stacks.NativeStacks.{NativeStacks}
@@ -168,6 +170,15 @@ pub record SaysStacks (s : Salvage) (told : Told) (old new : SinkSeen) : Type 0 
   pub are : ArePairs has.core has.opened.known has.opened.version has.opened.layout
       (records_of has.tables has.opened.version) (memory_in has.opened.dumped) has.left.salvaged.interpreters.items
       natives stacks
+
+-- The objects of each interpreter that is shown, by class: those of the lists of the collector, up to where each is torn
+-- or cut (`IsHeapAt` of py_heap), by the places that the tables have for the version and the records for classes.
+pub record SaysHeap (s : Salvage) (told : Told) (old new : SinkSeen) : Type 0 where
+  pub has : HasSalvaged s told old new
+  pub heaps : Heaps
+  pub is : has.left.memory.heap ≡ Some heaps
+  pub are : AreHeaps has.opened.known has.opened.version has.opened.layout (records_of has.tables has.opened.version)
+      (memory_in has.opened.dumped) has.left.salvaged.interpreters.items heaps
 
 -- The values of the locals of the frames that are shown, by so many `-l`: those of memory, by the types that the
 -- symbols of the process's images name (`repr_at` of py_reprs), and of each its text and, where JSON is asked for, its

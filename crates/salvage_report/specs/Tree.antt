@@ -12,7 +12,7 @@ use Rattle.thread_registers.specs.Trees.{threads_tree}
 use Rattle.salvage_json.specs.Salvaged.{ended_tree, interpreters_tree, process_tree, signal_tree}
 use Rattle.memory_sections.specs.Told.{names_given}
 use Rattle.memory_sections.specs.Values.{exceptions_tree_if, names_tree_if, native_tree_if, tasks_tree_if}
-use Rattle.memory_sections.specs.Values.{paired_tree_if, waits_tree_if}
+use Rattle.memory_sections.specs.Values.{heap_tree_if, paired_tree_if, waits_tree_if}
 use Rattle.missed_reads.specs.Told.{RefusedTold, missed_tree}
 use Rattle.py_selftest.specs.Trees.{check_tree}
 use Rattle.salvage_report.specs.LayoutChecked.{check_of}
@@ -29,13 +29,14 @@ section_tree tree (Some told) = tree told
 abbrev pub first_members : (limit : ℕ) → Left → Members → Members
 first_members limit left rest =
     member (codes "exceptions") (exceptions_tree_if left.memory.exceptions) (
+    member (codes "heap") (heap_tree_if left.memory.heap) (
     member (codes "interpreters") (interpreters_tree left.values left.salvaged.crash (names_given left.memory.names)
     left.salvaged.interpreters.items) (
     member (codes "layout_check") (section_tree check_tree (check_of left.check)) (
     member (codes "missing") (section_tree missed_tree (missing_shown left.told.missing)) (
     member (codes "more") (boolean left.salvaged.more) (
     member (codes "names") (names_tree_if left.memory.names) (
-    member (codes "native") (native_tree_if limit left.memory.native) rest))))))
+    member (codes "native") (native_tree_if limit left.memory.native) rest)))))))
 
 -- these and those behind them, before the last ones: how many values are left out, the version,
 -- and what threads wait for

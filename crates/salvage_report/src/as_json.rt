@@ -16,7 +16,8 @@ ghost use Rattle.salvage_report.specs.Sections.{missing_shown, registers_shown};
 use crate::left::Left;
 use crash_signal::{CrashSignal, Untold};
 use memory_sections::{
-    exceptions_value, names_told, names_value, native_value, paired_value, tasks_value, waits_value,
+    exceptions_value, heap_value, names_told, names_value, native_value, paired_value, tasks_value,
+    waits_value,
 };
 use missed_reads::{MissedBlocks, Misses, missed_blocks, missed_value};
 use py_layout::Version;
@@ -87,6 +88,7 @@ fn first_members(alloc: Global, limit: usize, left: &Left) -> Result<Map<String,
 {
     let salvaged = &left.salvaged;
     let exceptions = exceptions_value(alloc, &left.memory)?;
+    let heap = heap_value(alloc, &left.memory)?;
     let told = names_told(&left.memory);
     let interpreters = interpreters_value(
         alloc,
@@ -101,6 +103,7 @@ fn first_members(alloc: Global, limit: usize, left: &Left) -> Result<Map<String,
     let native = native_value(alloc, limit, &left.memory)?;
     let mut map = Map::new(alloc);
     put(&mut map, alloc, "exceptions", exceptions)?;
+    put(&mut map, alloc, "heap", heap)?;
     put(&mut map, alloc, "interpreters", interpreters)?;
     put(&mut map, alloc, "layout_check", layout_check)?;
     put(&mut map, alloc, "missing", missing)?;

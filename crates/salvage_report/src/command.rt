@@ -8,7 +8,7 @@ ghost use Rattle.salvage_words.specs.Seen.{asked_by};
 ghost use Rattle.salvage_report.specs.declared.cause.Cause.{Cause as Why};
 ghost use Rattle.salvage_report.specs.Headline.{HasSalvaged, SaysLayout, SaysNames, SaysNative, SaysRegisters};
 ghost use Rattle.salvage_report.specs.Headline.{SaysExceptions, SaysSignal, SaysStacks, SaysTasks, SaysValues};
-ghost use Rattle.salvage_report.specs.Headline.{SaysWaits};
+ghost use Rattle.salvage_report.specs.Headline.{SaysHeap, SaysWaits};
 ghost use Rattle.salvage_report.specs.Missing.{TellsRefused};
 ghost use Rattle.salvage_report.specs.Outcome.{IsFaultless, IsOutcome, cause_status};
 ghost use Rattle.salvage_report.specs.Run.{HasRunAfter, IsFew, TellsContents, pysalvage};
@@ -139,6 +139,9 @@ pub fn run<F: Files, S: Sink, E: Sink>(
 
     ensures stacks { (s : Salvage) → words_asked (texts words.now) ≡ Some (salvages s) → s.sections.native ≡ true
         → result ≡ 0 → SaysStacks s (F.seen files.old).told (S.seen out.old) (S.seen out.new) }
+
+    ensures heap { (s : Salvage) → words_asked (texts words.now) ≡ Some (salvages s) → s.sections.heap ≡ true
+        → result ≡ 0 → SaysHeap s (F.seen files.old).told (S.seen out.old) (S.seen out.new) }
 
     // where locals are asked for, each has its value
     ensures values { (s : Salvage) → words_asked (texts words.now) ≡ Some (salvages s) → s.locals ≢ 0

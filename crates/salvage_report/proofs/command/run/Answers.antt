@@ -13,7 +13,7 @@ use Rattle.salvage_report.proofs.Ends.{four_rose, run_complete, run_only, run_st
 use Rattle.salvage_report.proofs.TellingRefused.{may_tell, outcome_after, told_at_one, untold_else}
 use Rattle.salvage_report.proofs.Headline.{salvaged_of_run, says_layout, says_names, says_native, says_registers}
 use Rattle.salvage_report.proofs.Headline.{says_exceptions, says_signal, says_stacks, says_tasks}
-use Rattle.salvage_report.proofs.Headline.{says_values, says_waits}
+use Rattle.salvage_report.proofs.Headline.{says_heap, says_values, says_waits}
 use Rattle.salvage_report.proofs.Few.{asked_few}
 use Rattle.salvage_report.proofs.command.run.Goals as goal
 
@@ -82,6 +82,9 @@ returns-clause-stacks g c s asks on is = says_stacks s _ _ _ (returns-clause-hea
 
 pub returns-clause-native : goal.returns-clause-native
 returns-clause-native g c s asks on is = says_native s _ _ _ (returns-clause-headline g c s asks is) on
+
+pub returns-clause-heap : goal.returns-clause-heap
+returns-clause-heap g c s asks on is = says_heap s _ _ _ (returns-clause-headline g c s asks is) on
 
 pub returns-clause-values : goal.returns-clause-values
 returns-clause-values g c s asks on is = says_values s _ _ _ (returns-clause-headline g c s asks is) on
