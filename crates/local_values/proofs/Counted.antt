@@ -1,10 +1,11 @@
 -- How many values a value is, by those within it.
 use Rattle.std.proofs.Common.{Vec, Global, ◌≡◌, ℕ, ◌+◌, ◌-◌, ◌<◌, ◌≤◌, List, [], ◌∷◌, ◌++◌, map, take, get_or, length, refl, sym, ap, ◌∙◌, arith}
+use Rattle.std.specs.Prelude.{Option}
 use Rattle.std.proofs.lemmas.List.{map-append, take_all, take_more}
 use Rattle.py_reprs.specs.declared.repr.ItemsForm.{ItemsForm}
 use Rattle.py_reprs.specs.declared.repr.Repr.{Repr}
 use Rattle.py_reprs.specs.declared.repr.Repr.TheVariants as read
-use Rattle.py_reprs.specs.declared.repr.Repr.TheVariants.{rolls-Items, rolls-Pairs}
+use Rattle.py_reprs.specs.declared.repr.Repr.TheVariants.{rolls-Instance, rolls-Items, rolls-Pairs}
 use Rattle.py_reprs.specs.declared.repr.Repr.TheFolds.{fold-roll-Repr, ind-Repr}
 use Rattle.py_reprs.specs.declared.repr.Repr.TheViews.{roll-Repr}
 use Rattle.py_reprs.specs.declared.repr.Repr.TheOpen.{Repr-F}
@@ -57,19 +58,22 @@ pub left_none : (left : ℕ) → left ≡ left - nodes_read []
 unfolding nodes_in
 left_none left = omega arith
 
--- a value that is neither a container nor a dict is one
+-- a value that is no container, no dict and no instance with attributes is one
 abbrev pub IsOneNode : Repr → Type 0
 IsOneNode v = ((form : ItemsForm) (items : Vec Repr Global) (left_out : ℕ) → v ≡ read.Items form items left_out → ⊥)
     → ((keys values : Vec Repr Global) (left_out : ℕ) → v ≡ read.Pairs keys values left_out → ⊥)
-    → nodes_of (tree_of v) ≡ 1
+    → ((class : Option (List ℕ)) (addr : ℕ) (names values : Vec Repr Global) (left_out : ℕ)
+    → v ≡ read.Instance class addr names values left_out → ⊥) → nodes_of (tree_of v) ≡ 1
 
 rolled : (x : Repr-F Repr) → IsOneNode (roll-Repr x)
 unfolding nodes_of
-rolled (Repr-F.Items form items left_out) no_items no_pairs =
+rolled (Repr-F.Items form items left_out) no_items no_pairs no_instance =
     absurd (no_items form items left_out (rolls-Items form items left_out))
-rolled (Repr-F.Pairs keys values left_out) no_items no_pairs =
+rolled (Repr-F.Pairs keys values left_out) no_items no_pairs no_instance =
     absurd (no_pairs keys values left_out (rolls-Pairs keys values left_out))
-rolled x no_items no_pairs = ap nodes_of (fold-roll-Repr Tree tree_step x)
+rolled (Repr-F.Instance class addr names values left_out) no_items no_pairs no_instance =
+    absurd (no_instance class addr names values left_out (rolls-Instance class addr names values left_out))
+rolled x no_items no_pairs no_instance = ap nodes_of (fold-roll-Repr Tree tree_step x)
 
 pub leaf_nodes : (v : Repr) → IsOneNode v
 leaf_nodes = ind-Repr IsOneNode (λ x y is. rolled x)

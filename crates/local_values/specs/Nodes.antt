@@ -1,12 +1,13 @@
 -- How many values a value is: itself, and each within it.
 use Rattle.std.specs.Prelude.{ℕ, ◌+◌}
 use Rattle.py_reprs.specs.Trees.{Tree, Trees, no_trees, tree}
-use Rattle.py_reprs.specs.Trees.Tree.{Items, Pairs}
+use Rattle.py_reprs.specs.Trees.Tree.{Items, Pairs, Instance}
 
 unfoldable mutual
   pub nodes_of : Tree → ℕ
   nodes_of (Items form items left_out) = 1 + nodes_in items
   nodes_of (Pairs keys values left_out) = 1 + (nodes_in keys + nodes_in values)
+  nodes_of (Instance class addr names values left_out) = 1 + (nodes_in names + nodes_in values)
   nodes_of _ = 1
 
   pub nodes_in : Trees → ℕ

@@ -18,6 +18,10 @@ pub(crate) fn left_after(left: u64, value: &Repr) -> u64
             let behind = left_after_all(rest, keys);
             left_after_all(behind, values)
         }
+        Repr::Instance { names, values, .. } => {
+            let behind = left_after_all(rest, names);
+            left_after_all(behind, values)
+        }
         _ => rest,
     }
 }

@@ -29,6 +29,7 @@ const NO_TYPES: ReprTypes = ReprTypes {
     method: None,
     builtin: None,
     module: None,
+    instances: None,
 };
 
 fn local(alloc: Global, addr: u64) -> Result<LocalVariable, AllocError> {

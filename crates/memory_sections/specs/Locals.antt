@@ -1,9 +1,12 @@
 -- The values of the locals of the frames that are shown.
-use Rattle.std.specs.Prelude.{ℕ, min, not, nat_eq, List, Option}
+use Rattle.std.specs.Prelude.{ℕ, min, not, nat_eq, List, Option, Some, None}
 use Rattle.process_memory.specs.Memory.{Memory}
 use Rattle.py_fields.specs.declared.layout.Layout.{Layout}
 use Rattle.py_fronts.specs.declared.salvaged.SalvagedInterpreter.{SalvagedInterpreter}
 use Rattle.py_process.specs.Facts.{Known}
+use Rattle.py_reprs.specs.declared.attributes.InstanceRule.{InstanceRule}
+use Rattle.py_reprs.specs.declared.kinds.ReprTypes.{ReprTypes}
+use Rattle.thread_names.specs.declared.own.DictRule.{DictRule}
 use Rattle.repr_types.specs.Symbols.{repr_types_at}
 use Rattle.local_values.specs.Values.{AreLocalValues}
 use Rattle.local_values.specs.declared.values.LocalValues.{LocalValues}
@@ -13,7 +16,39 @@ use Rattle.memory_sections.specs.Each.{ToldIf}
 abbrev pub levels_of : ℕ → ℕ
 levels_of times = min times 5
 
--- the values of memory, by the types that the symbols of the process's images name
-abbrev pub ValuesAre : (times : ℕ) → Known → Layout → Memory → List SalvagedInterpreter → Option LocalValues → Type 0
-ValuesAre times k l m is told =
-    ToldIf (not (nat_eq times 0)) (AreLocalValues l (repr_types_at k l m) (levels_of times) m is) told
+-- by what the attributes of instances are found, by the rule of their dicts
+abbrev pub instances_of : Option DictRule → Option InstanceRule
+instances_of None = None
+instances_of (Some rule) = Some (record { fields = rule.fields; form = rule.form })
+
+-- the same types, with by what attributes are found
+abbrev pub with_instances : ReprTypes → Option InstanceRule → ReprTypes
+with_instances t rule = record {
+  nothing = t.nothing;
+  ellipsis = t.ellipsis;
+  not_implemented = t.not_implemented;
+  truth = t.truth;
+  float = t.float;
+  complex = t.complex;
+  bytearray = t.bytearray;
+  set = t.set;
+  frozenset = t.frozenset;
+  range = t.range;
+  slice = t.slice;
+  cell = t.cell;
+  function = t.function;
+  method = t.method;
+  builtin = t.builtin;
+  «module» = t.module;
+  instances = rule;
+}
+
+-- by what values are told: the types that the symbols of the process's images name, and the rule of instances' dicts
+abbrev pub types_told : Option DictRule → Known → Layout → Memory → ReprTypes
+types_told rule k l m = with_instances (repr_types_at k l m) (instances_of rule)
+
+-- the values of memory
+abbrev pub ValuesAre : (times : ℕ) → Known → Layout → Option DictRule → Memory → List SalvagedInterpreter
+    → Option LocalValues → Type 0
+ValuesAre times k l rule m is told =
+    ToldIf (not (nat_eq times 0)) (AreLocalValues l (types_told rule k l m) (levels_of times) m is) told

@@ -113,5 +113,5 @@ pub record AreMemoryTold (asked : Sections) (times : ℕ) (bytes : List ℕ) (im
   pub waits : WaitsAre asked.waits bytes k l r m is told.waits
   pub native : NativeAre asked.native asked.strict bytes images m is told.native
   pub stacks : PairsAre bytes k v l r m is told.native told.stacks
-  pub values : ValuesAre times k l m is told.values
+  pub values : ValuesAre times k l (rule_of l r) m is told.values
   pub heap : HeapIs asked.heap k v l r m is told.heap

@@ -6,15 +6,19 @@ ghost use Rattle.py_fields.specs.Sound.{IsSound};
 ghost use Rattle.py_process.specs.Facts.{known_of};
 ghost use Rattle.repr_types.specs.Symbols.{repr_types_at};
 ghost use Rattle.local_values.specs.Values.{AreLocalValues};
-ghost use Rattle.memory_sections.specs.Locals.{ValuesAre, levels_of};
+ghost use Rattle.memory_sections.specs.Locals.{ValuesAre, instances_of, levels_of, types_told, with_instances};
+ghost use Rattle.memory_sections.specs.Told.{rule_of};
 
+use crate::rule::rule_of;
 use core_stacks::Process;
 use local_values::{LocalValues, read_local_values};
 use missed_reads::{Missed, Misses};
 use py_fronts::SalvagedInterpreter;
-use py_reprs::{ReprError, ReprTypes};
+use py_records::Records;
+use py_reprs::{InstanceRule, ReprError, ReprTypes};
 use repr_types::find_repr_types;
 use std::alloc::{AllocError, Global};
+use thread_names::DictRule;
 
 /// What was read, or that there was no memory left.
 fn read_or_wanting<T: Drop>(read: Result<T, ReprError>) -> Result<T, AllocError>
@@ -35,6 +39,40 @@ fn own_types(alloc: Global, process: &Process, misses: &mut Misses) -> Result<Re
     let read = find_repr_types(alloc, &process.info, &mut view, &process.layout);
     let types = read_or_wanting(read)?;
     Ok(types)
+}
+
+/// By what the attributes of instances are found, by the rule of their dicts.
+fn instances_of(rule: Option<DictRule>) -> Option<InstanceRule>
+    ensures { result ≡ instances_of rule }
+{
+    match rule {
+        Some(rule) => Some(InstanceRule {
+            fields: rule.fields,
+            form: rule.form,
+        }),
+        None => None,
+    }
+}
+
+/// The same types, with by what attributes are found.
+fn with_instances(types: ReprTypes, instances: Option<InstanceRule>) -> ReprTypes
+    ensures { result ≡ with_instances types instances }
+{
+    ReprTypes { instances, ..types }
+}
+
+/// By what values are told, by the rule of instances' dicts. Reads that are refused are kept.
+fn types_told(
+    alloc: Global,
+    process: &Process,
+    rule: Option<DictRule>,
+    misses: &mut Misses,
+) -> Result<ReprTypes, AllocError>
+    ensures { IfOk result (λ types. types ≡ types_told rule (known_of process.now.info) process.now.layout
+        (byte_at (regions_of process.now.dump))) }
+{
+    let types = own_types(alloc, process, misses)?;
+    Ok(with_instances(types, instances_of(rule)))
 }
 
 /// The values, by so many `-l`. Reads that are refused are kept.
@@ -76,17 +114,19 @@ pub(crate) fn values_section(
     alloc: Global,
     times: u64,
     process: &Process,
+    records: &Records,
     misses: &mut Misses,
     interpreters: &[SalvagedInterpreter],
 ) -> Result<Option<LocalValues>, AllocError>
     requires sound { IsSound process.now.layout }
     ensures { IfOk result (ValuesAre times (known_of process.now.info) process.now.layout
-        (byte_at (regions_of process.now.dump)) interpreters.now) }
+        (rule_of process.now.layout records.now) (byte_at (regions_of process.now.dump)) interpreters.now) }
 {
     if times == 0 {
         return Ok(None);
     }
-    let types = own_types(alloc, process, misses)?;
+    let rule = rule_of(&process.layout, records);
+    let types = types_told(alloc, process, rule, misses)?;
     let levels = levels_of(times);
     let values = own_values(alloc, process, misses, &types, levels, interpreters)?;
     Ok(Some(values))

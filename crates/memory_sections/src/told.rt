@@ -101,7 +101,7 @@ pub fn tell_memory(
         misses,
     )?;
     let stacks = pairs_section(alloc, process, records, &native, interpreters, misses)?;
-    let values = values_section(alloc, times, process, misses, interpreters)?;
+    let values = values_section(alloc, times, process, records, misses, interpreters)?;
     let heap = heap_section(alloc, asked.heap, process, records, misses, interpreters)?;
     Ok(MemoryTold {
         names,

@@ -43,11 +43,10 @@ use Rattle.salvage_report.specs.Pointers.{pointers_of}
 use Rattle.memory_sections.specs.Pythons.{python_threads}
 use Rattle.salvage_report.specs.Sections.{own_id, registers_shown}
 use Rattle.salvage_report.specs.Texts.{shown_left}
-use Rattle.repr_types.specs.Symbols.{repr_types_at}
 use Rattle.local_values.specs.Addresses.{shown_addresses}
 use Rattle.local_values.specs.Values.{AreLocalValues}
 use Rattle.local_values.specs.declared.values.LocalValues.{LocalValues}
-use Rattle.memory_sections.specs.Locals.{levels_of}
+use Rattle.memory_sections.specs.Locals.{levels_of, types_told}
 use Rattle.shown_values.specs.Values.{AreShown}
 
 -- the tables that a file of records says, and none where there is no file
@@ -181,13 +180,15 @@ pub record SaysHeap (s : Salvage) (told : Told) (old new : SinkSeen) : Type 0 wh
       (memory_in has.opened.dumped) has.left.salvaged.interpreters.items heaps
 
 -- The values of the locals of the frames that are shown, by so many `-l`: those of memory, by the types that the
--- symbols of the process's images name (`repr_at` of py_reprs), and of each its text and, where JSON is asked for, its
--- JSON (`Writes` of repr_texts, `IsJson` of repr_json).
+-- symbols of the process's images name, and with the attributes of instances where the records that the tables have for
+-- the version say how these have their dicts (`repr_at` of py_reprs), and of each its text and, where JSON is asked for,
+-- its JSON (`Writes` of repr_texts, `IsJson` of repr_json).
 pub record SaysValues (s : Salvage) (told : Told) (old new : SinkSeen) : Type 0 where
   pub has : HasSalvaged s told old new
   pub values : LocalValues
   pub is : has.left.memory.values ≡ Some values
   pub are : AreLocalValues has.opened.layout
-      (repr_types_at has.opened.known has.opened.layout (memory_in has.opened.dumped)) (levels_of s.locals)
+      (types_told (rule_of has.opened.layout (records_of has.tables has.opened.version)) has.opened.known
+      has.opened.layout (memory_in has.opened.dumped)) (levels_of s.locals)
       (memory_in has.opened.dumped) has.left.salvaged.interpreters.items values
   pub shown : AreShown s.json (Some values) (shown_addresses has.left.salvaged.interpreters.items) has.left.values

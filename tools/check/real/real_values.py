@@ -3,8 +3,8 @@
 
     tools/check/real/real_values.py --salvage crates/pysalvage/out/pysalvage [PYTHON..]
 
-In each Python that is installed a process dies that keeps some hundred values in the locals of a frame, of every kind
-(values_child.py), and has said of each its `repr` and its tree. By one `-l`, by two and by three, in a core with all of memory and
+In each Python that is installed a process dies that keeps some hundred values in the locals of a frame, of every kind, objects with
+attributes too (values_child.py), and has said of each its `repr` and its tree. By one `-l`, by two and by three, in a core with all of memory and
 in one as they are usually written, each value is told equal, or shorter with its count: in the tree each part that is shown is the
 process's own, and what is left out is counted; in the text that has no count `repr` itself stands. What more is shown by more `l`
 leaves nothing out that was shown. Values of kinds that are told as objects of their types alone are counted. The status is 0 exactly
@@ -32,12 +32,15 @@ CHILD = Path(__file__).with_name("values_child.py")
 TIMES = (1, 2, 3)
 """How often `-l` is given."""
 
-CONTAINERS = {"list", "tuple", "set", "frozenset", "range", "slice", "cell", "dict", "method"}
+CONTAINERS = {"list", "tuple", "set", "frozenset", "range", "slice", "cell", "dict", "method", "instance"}
+
+PAIRS = ("dict", "instance")
+"""Kinds of values whose parts are pairs."""
 
 BARE = {"object", "function", "builtin", "module", "method", "class"}
 """Kinds of objects that may be told by their types alone, or by more than the process said of them."""
 
-OLD = {"unicode", "dict", "set", "frozenset", "bytearray", "range", "slice", "cell"}
+OLD = {"unicode", "dict", "set", "frozenset", "bytearray", "range", "slice", "cell", "instance"}
 """Kinds of Python 2's whose records may not be read: such values are objects of their types."""
 
 Tree = Dict[str, Any]
@@ -73,10 +76,15 @@ def locals_in(text: str) -> Dict[str, Tree]:
 # ---- a value, against what the process said
 
 
+def parts_of(told: Tree) -> List[Any]:
+    """What is shown of a value: its items, or the pairs of names and values that it has."""
+    return list(told.get("attributes" if told["kind"] == "instance" else "items", []))
+
+
 def within(told: Tree) -> List[Tree]:
     """The values that are shown in another."""
-    items = told.get("items", [])
-    return [it for pair in items for it in pair] if told["kind"] == "dict" else items
+    items = parts_of(told)
+    return [it for pair in items for it in pair] if told["kind"] in PAIRS else items
 
 
 def is_cut(told: Tree) -> bool:
@@ -102,11 +110,13 @@ def others_in_text(told: Tree, wanted: Tree) -> Iterator[str]:
 
 def others_in_items(told: Tree, wanted: Tree, is_2: bool) -> Iterator[str]:
     """How a container differs, of which a front is enough with how many more there are."""
-    shown, all_of = told["items"], wanted["items"]
+    shown, all_of = parts_of(told), parts_of(wanted)
+    if wanted["kind"] == "instance" and (told["address"], told["type"]) != (wanted["address"], wanted["type"]):
+        yield f"{told['type']} at {told['address']} is told of {wanted['type']} at {wanted['address']}"
     if len(shown) + told["more"] != len(all_of):
         yield f"{len(shown)} and {told['more']} more are told of {len(all_of)}"
     for one, other in zip(shown, all_of):
-        pairs = zip(one, other) if wanted["kind"] == "dict" else [(one, other)]
+        pairs = zip(one, other) if wanted["kind"] in PAIRS else [(one, other)]
         for own, its in pairs:
             yield from others(own, its, is_2)
 
@@ -170,10 +180,11 @@ def check_more(name: str, less: Tree, more: Tree) -> None:
 
 def fewer(less: Tree, more: Tree) -> Iterator[str]:
     """How a container shows less by more `l`."""
-    if len(less["items"]) + less["more"] != len(more["items"]) + more["more"] or len(less["items"]) > len(more["items"]):
-        yield f"{len(more['items'])} are shown, and {len(less['items'])} were"
-    for one, other in zip(less["items"], more["items"]):
-        for own, its in zip(one, other) if less["kind"] == "dict" else [(one, other)]:
+    front, whole = parts_of(less), parts_of(more)
+    if len(front) + less["more"] != len(whole) + more["more"] or len(front) > len(whole):
+        yield f"{len(whole)} are shown, and {len(front)} were"
+    for one, other in zip(front, whole):
+        for own, its in zip(one, other) if less["kind"] in PAIRS else [(one, other)]:
             if own["kind"] in CONTAINERS:
                 yield from fewer(own, its)
             else:

@@ -33,6 +33,77 @@ class Derived(int):
     """A class whose objects are integers too."""
 
 
+class Order(object):
+    """A class whose objects have attributes."""
+
+    shared = "the class's own"
+
+
+class Taken(object):
+    """One whose objects' dicts are asked for."""
+
+
+class Lessened(object):
+    """One whose objects lose attributes."""
+
+
+class Many(object):
+    """One whose objects have more than are shown."""
+
+
+class Odd(object):
+    """One whose objects have names that are no identifiers."""
+
+
+class Slotted(object):
+    """One whose objects have no dict."""
+
+    __slots__ = ("kept",)
+
+
+class Both(object):
+    """One whose objects have a dict too."""
+
+    __slots__ = ("kept", "__dict__")
+
+
+class Meta(type):
+    """A class of classes."""
+
+
+SAID = {}
+"""The attributes of objects, by their addresses: asking an object for its dict would change how it holds them."""
+
+
+def with_attributes(value, *own):
+    """An object with these attributes, set one after the other."""
+    for name, it in own:
+        setattr(value, name, it)
+    SAID[id(value)] = (value, list(own))
+    return value
+
+
+def without(value, name):
+    """The same object without an attribute."""
+    delattr(value, name)
+    SAID[id(value)] = (value, [it for it in attributes_of(value) if it[0] != name])
+    return value
+
+
+def attributes_of(value):
+    """The attributes that were set."""
+    return SAID.get(id(value), (value, []))[1]
+
+
+def data_object():
+    """An object of a dataclass, where there are such."""
+    try:
+        from dataclasses import make_dataclass
+    except ImportError:
+        return with_attributes(Plain(), ("x", 1), ("y", 2.5))
+    return with_attributes(make_dataclass("Data", ["x", "y"])(0, 0), ("x", 1), ("y", 2.5))
+
+
 def plain_function():
     """A function."""
 
@@ -130,7 +201,11 @@ def tree_of(value, depth=0):
         return tree
     if isinstance(value, type):
         return {"kind": "class", "name": value.__name__, "address": hexadecimal(id(value))}
-    return {"kind": "object", "type": type(value).__name__, "address": hexadecimal(id(value))}
+    tree = {"kind": "object", "type": type(value).__name__, "address": hexadecimal(id(value))}
+    if attributes_of(value):
+        pairs = [[tree_of(name, depth + 1), tree_of(it, depth + 1)] for name, it in attributes_of(value)]
+        tree.update({"kind": "instance", "attributes": pairs, "more": 0})
+    return tree
 
 
 ALIKE = (type(None), bool, float, complex, bytes, bytearray, type(u""), type(Ellipsis), type(NotImplemented))
@@ -150,8 +225,19 @@ def is_alike(value, depth=0):
     return type(value) is slice and all(is_alike(it) for it in (value.start, value.stop, value.step))
 
 
+def instance_text(value):
+    """The text of an object whose attributes are written as `repr` writes them, none of another one."""
+    own = attributes_of(value)
+    if not own or not all(is_alike(it) for _, it in own):
+        return None
+    parts = ["%s=%r" % (name if name.replace("_", "a").isalnum() and not name[0].isdigit() else repr(name), it) for name, it in own]
+    return "<%s at %s: %s>" % (type(value).__name__, hexadecimal(id(value)), ", ".join(parts))
+
+
 def said_of(value):
     """What is said of a value."""
+    if attributes_of(value):
+        return {"text": instance_text(value), "tree": tree_of(value)}
     if isinstance(value, Derived):
         return {"text": None, "tree": integer_tree(int(value), "int")}
     huge = isinstance(value, (int, LONG_TYPE)) and abs(value).bit_length() > LONG
@@ -197,6 +283,22 @@ def keep():
     steps, plain_range, piece, whole_piece = range(1, 10, 2), range(5), slice(1, None, 2), slice(None)
     cell, kind, own_kind, plain, other = held(), dict, Plain, Plain(), object()
     function, built_in, module = plain_function, len, json
+    order = with_attributes(Order(), ("id", 7), ("items", [1, 2]), ("text", "it's"))
+    taken = with_attributes(Taken(), ("a", 1), ("b", None))
+    taken.__dict__["c"] = 3
+    SAID[id(taken)][1].append(("c", 3))
+    lessened = without(with_attributes(Lessened(), ("a", 1), ("b", 2), ("c", 3)), "b")
+    emptied = without(with_attributes(Lessened(), ("a", 1)), "a")
+    many = with_attributes(Many(), *[("n%d" % it, it) for it in range(100)])
+    odd = with_attributes(Odd(), ("a b", 1), ("x=1, y", 2), ("1a", 3), ("it's", 4))
+    slotted, with_both, data = Slotted(), with_attributes(Both(), ("own", 2)), data_object()
+    slotted.kept = with_both.kept = 1
+    by_meta = with_attributes(Meta("ByMeta", (object,), {"shared": 1})(), ("own", 2))
+    holding = with_attributes(Order(), ("inner", order), ("others", [data, {"k": by_meta}]))
+    looped = with_attributes(Taken(), ("a", 1))
+    looped.itself = looped
+    SAID[id(looped)][1].append(("itself", looped))
+    error = with_attributes(ValueError("x"), ("note", 1))
     tell(dict(locals()))
     os.abort()
 
