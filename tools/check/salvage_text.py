@@ -37,6 +37,7 @@ VALUES = {
     **dict.fromkeys(("class", "builtin", "module"), ("address", "name")),
     "function": ("address", "file", "line", "name"),
     "object": ("address", "type"),
+    "instance": ("address", "attributes", "more", "type"),
     "unreadable": ("address", "length", "of"),
     "damaged": ("address", "of"),
 }
@@ -119,8 +120,8 @@ def check_value(tree: object) -> None:
     need_keys(tree, "kind", *VALUES[tree["kind"]] if tree["kind"] not in INTEGERS or tree["value"] is not None else TOO_LONG)
     for key in ("length", "more", "digits", "line"):
         need_number(tree.get(key, 0))
-    for it in tree.get("items", ()):
-        for own in it if tree["kind"] == "dict" else [it]:
+    for it in tree.get("items", tree.get("attributes", ())):
+        for own in it if tree["kind"] in ("dict", "instance") else [it]:
             check_value(own)
 
 
