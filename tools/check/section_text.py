@@ -175,6 +175,29 @@ def check_sections(tree: Tree, asked: Collection[str]) -> None:
         check_paired(tree)
     if tree["tasks"] is not None:
         check_tasks(tree)
+    if tree["exceptions"] is not None:
+        check_exceptions(tree)
+
+
+LASTS = {"exception": ("address", "exceptions", "name"), "unreadable": ("name",)}
+"""What is told of the last exception that no code handled, by its kind."""
+
+
+def check_exceptions(tree: Tree) -> None:
+    """Fails where the exceptions aren't those of each interpreter that is shown, or the last one of each is of no kind that there is."""
+    if [it["interpreter"] for it in tree["exceptions"]] != [it["address"] for it in tree["interpreters"]]:
+        raise Failure("exceptions of other interpreters")
+    for it in tree["exceptions"]:
+        check_keys(it, "interpreter", "kind", "last", "threads")
+        last = it["last"]
+        if last is None:
+            continue
+        check_one_of(last, LASTS)
+        if last["name"] not in ("last_exc", "last_value") or it["kind"] != "read":
+            raise Failure(f"the last exception is {last!r}")
+        addresses = [one["address"] for one in last.get("exceptions", ())]
+        if len(set(addresses)) != len(addresses) or "address" in last and addresses[:1] != [last["address"]]:
+            raise Failure(f"the last exception leads to {addresses}")
 
 
 def check_names(tree: Tree) -> None:

@@ -108,6 +108,10 @@ class Interpreter(NamedTuple):
     """Why its lock can't be read, if it can't."""
     end: str = ""
     """How its chain of threads ends, where it doesn't end as a whole one does."""
+    last: Tuple[str, ...] = ()
+    """The lines of the last exception that no code handled, where that is asked for and there is one."""
+    last_said: str = ""
+    """The first of it in a line."""
 
 
 class Registers(NamedTuple):

@@ -11,13 +11,18 @@ use Rattle.exception_texts.specs.declared.told.InterpreterExceptions.{Interprete
 use Rattle.exception_texts.specs.declared.told.ThreadTold.{ThreadTold}
 use Rattle.exception_texts.specs.Known.{knows}
 use Rattle.exception_texts.specs.Said.{message_text}
-use Rattle.exception_texts.specs.Trees.{address_tree, addresses_tree, all_exceptions_tree, arguments_tree, end_tree, entries_list}
+use Rattle.exception_texts.specs.Trees.{address_tree, addresses_tree, arguments_tree, end_tree, entries_list}
 use Rattle.exception_texts.specs.Trees.{entry_tree, exception_tree, fault_tree, first_trees, frame_tree, frames_tree}
-use Rattle.exception_texts.specs.Trees.{interpreter_tree, item_tree, items_tree, link_tree, members_tree, message_tree}
+use Rattle.exception_texts.specs.Trees.{item_tree, items_tree, link_tree, members_tree, message_tree}
 use Rattle.exception_texts.specs.Trees.{met_object, named_tree, notes_tree, numbered_tree, object_tree, objects_tree}
 use Rattle.exception_texts.specs.Trees.{own_frame_tree, own_frames_tree, own_parts_tree, parts_tree, raised_tree, repr_tree}
 use Rattle.exception_texts.specs.Trees.{reprs_tree, rule_tree, running_tree, str_tree, strs_tree, text_tree, thread_tree}
-use Rattle.exception_texts.specs.Trees.{threads_tree, told_object, told_tree, of_tree}
+use Rattle.exception_texts.specs.Trees.{threads_tree, told_object, told_tree}
+use Rattle.exception_texts.specs.LastTrees.{all_exceptions_tree, found_tree, interpreter_tree, last_tree, of_tree}
+use Rattle.py_exceptions.specs.declared.last.LastException.{LastException}
+use Rattle.py_exceptions.specs.declared.last.LastFound.{LastFound}
+use Rattle.py_exceptions.specs.declared.last.LastFound.TheVariants as lasts
+use Rattle.py_exceptions.specs.declared.last.LastName.{LastName}
 use Rattle.py_exceptions.specs.declared.value.Value as field
 use Rattle.py_exceptions.specs.declared.rule.Rule.{Rule}
 use Rattle.py_exceptions.specs.declared.rule.Rule.TheVariants as rule
@@ -197,11 +202,20 @@ threads : (its : List ThreadTold) → has_float (threads_tree its) ≡ false
 threads [] = refl
 threads (t ∷ its) = ap (λ b. b || items_have_float (items_of (map (λ x. thread_tree x) its))) (thread t) ∙ threads its
 
-of : (a : ℕ) (e : ExceptionsOf) → has_float (of_tree a e) ≡ false
-of a NotDescribed = refl
-of a (Read its) = λ i. false || (false || (threads its.items i || false))
+found : (name : LastName) (f : LastFound) → has_float (found_tree name f) ≡ false
+found name lasts.Nothing = refl
+found name (lasts.Exception a t) = λ i. false || (objects t i || (false || (false || false)))
+found name lasts.Unreadable = refl
+
+last_one : (t : Option LastException) → has_float (last_tree t) ≡ false
+last_one None = refl
+last_one (Some t) = found t.name t.found
+
+of : (a : ℕ) (t : Option LastException) (e : ExceptionsOf) → has_float (of_tree a (last_tree t) e) ≡ false
+of a t NotDescribed = λ i. false || (false || (last_one t i || (false || false)))
+of a t (Read its) = λ i. false || (false || (last_one t i || (threads its.items i || false)))
 
 pub no_float : (its : List InterpreterExceptions) → has_float (all_exceptions_tree its) ≡ false
 no_float [] = refl
 no_float (i ∷ its) = ap (λ b. b || items_have_float (items_of (map (λ x. interpreter_tree x) its)))
-    (of i.interpreter i.exceptions) ∙ no_float its
+    (of i.interpreter i.last i.exceptions) ∙ no_float its

@@ -1,5 +1,7 @@
 pub mod Frames
 pub mod Known
+pub mod LastText
+pub mod LastTrees
 pub mod Plan
 pub mod Roots
 pub mod Said

@@ -269,9 +269,6 @@ abbrev pub of_text : ExceptionsOf → List ℕ
 of_text NotDescribed = codes "Exceptions are not told: not described for this version\n"
 of_text (Read threads) = threads_text threads.items
 
+-- those of an interpreter's threads
 abbrev pub interpreter_text : InterpreterExceptions → List ℕ
 interpreter_text i = of_text i.exceptions
-
--- those of each interpreter, in order
-abbrev pub all_exceptions_text : List InterpreterExceptions → List ℕ
-all_exceptions_text is = concat (map (λ i. interpreter_text i) is)

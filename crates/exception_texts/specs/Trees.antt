@@ -10,9 +10,6 @@ use Rattle.exception_texts.specs.Known.{knows}
 use Rattle.exception_texts.specs.Said.{message_text}
 use Rattle.exception_texts.specs.Text.{known_class, named_text}
 use Rattle.exception_texts.specs.Values.{repr_text, str_text}
-use Rattle.exception_texts.specs.declared.told.ExceptionsOf.{ExceptionsOf}
-use Rattle.exception_texts.specs.declared.told.ExceptionsOf.TheVariants.{NotDescribed, Read}
-use Rattle.exception_texts.specs.declared.told.InterpreterExceptions.{InterpreterExceptions}
 use Rattle.exception_texts.specs.declared.told.ThreadTold.{ThreadTold}
 use Rattle.py_exceptions.specs.declared.name.ClassName.{ClassName}
 use Rattle.py_exceptions.specs.declared.value.Value as field
@@ -304,20 +301,3 @@ thread_tree t = object (
 
 abbrev pub threads_tree : List ThreadTold → Data
 threads_tree its = array (items_of (map (λ t. thread_tree t) its))
-
-abbrev pub kind_tree : ℕ → List ℕ → Data → Data
-kind_tree interpreter kind threads = object (
-    member (codes "interpreter") (string (address_text interpreter)) (
-    member (codes "kind") (string kind) (
-    member (codes "threads") threads no_members)))
-
-abbrev pub of_tree : ℕ → ExceptionsOf → Data
-of_tree interpreter NotDescribed = kind_tree interpreter (codes "not described") null
-of_tree interpreter (Read threads) = kind_tree interpreter (codes "read") (threads_tree threads.items)
-
-abbrev pub interpreter_tree : InterpreterExceptions → Data
-interpreter_tree i = of_tree i.interpreter i.exceptions
-
--- those of each interpreter, in order
-abbrev pub all_exceptions_tree : List InterpreterExceptions → Data
-all_exceptions_tree its = array (items_of (map (λ i. interpreter_tree i) its))

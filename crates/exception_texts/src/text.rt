@@ -1,7 +1,7 @@
 //! The lines of exceptions.
 ghost use Rattle.std.specs.Prelude.{◌≡◌, ◌++◌, OnOk, string_bytes};
 ghost use Rattle.thread_exceptions.specs.Groups.{members_of};
-ghost use Rattle.exception_texts.specs.Text.{arguments_lead, no_trace, own_trace, known_class, has_break, object_lead, again_line, all_exceptions_text, at_end, behind_colon, by_arguments};
+ghost use Rattle.exception_texts.specs.Text.{arguments_lead, no_trace, own_trace, known_class, has_break, object_lead, again_line, at_end, behind_colon, by_arguments};
 ghost use Rattle.exception_texts.specs.Text.{by_text, class_at, class_text, colon_text, exception_lines, head_line};
 ghost use Rattle.exception_texts.specs.Text.{interpreter_text, is_break, is_plain_class, is_plain_name};
 ghost use Rattle.exception_texts.specs.Text.{is_plain_part, is_top, items_end, items_on, line_text, lines_text};
@@ -126,7 +126,9 @@ pub(crate) fn push_known_class(
     }
 }
 
-/// The name of a class.
+/// Appends the name of a class, in which control characters, quotes and backslashes are escaped; a module that Python
+/// leaves out where it names an exception's class is left out, and `?` stands for a name that can't be read. The one error
+/// is want of memory.
 pub fn push_named(
     alloc: Global,
     text: &mut String,
@@ -581,7 +583,7 @@ fn push_line(
 }
 
 /// Lines, in order.
-fn push_lines(
+pub(crate) fn push_lines(
     alloc: Global,
     text: &mut String,
     told: &ToldThread,
@@ -653,7 +655,7 @@ fn push_threads(alloc: Global, text: &mut String, threads: &[ThreadTold]) -> Res
 }
 
 /// Those of an interpreter's threads.
-fn push_interpreter(
+pub(crate) fn push_interpreter(
     alloc: Global,
     text: &mut String,
     told: &InterpreterExceptions,
@@ -666,25 +668,4 @@ fn push_interpreter(
         ),
         ExceptionsOf::Read(threads) => push_threads(alloc, text, threads),
     }
-}
-
-/// Appends the lines of the exceptions of the threads of some interpreters, in order.
-///
-/// Of a thread that neither raises nor handles any there are none. Of another one the first line is `Exceptions of thread
-/// 0x7F..:`, and behind `Raised:` and each `Handling:` stand the exceptions, indented: the cause of each before it, or its
-/// context unless that is suppressed, with the sentence that Python has between them; behind its own line its notes in
-/// quotes, its traceback, the oldest call first, and the members of a group, indented further. An exception has its lines
-/// once, and is named by its class and address elsewhere. What can't be read has a line that begins with three points. The
-/// one error is want of memory.
-pub fn push_exceptions(
-    alloc: Global,
-    text: &mut String,
-    exceptions: &[InterpreterExceptions],
-) -> Result<(), AllocError>
-    ensures { OnOk result (string_bytes text.new ≡ string_bytes text.old ++ all_exceptions_text exceptions.now) }
-{
-    for interpreter in exceptions {
-        push_interpreter(alloc, text, interpreter)?;
-    }
-    Ok(())
 }

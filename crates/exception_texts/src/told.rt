@@ -1,6 +1,6 @@
 //! What a section tells of exceptions.
 
-use py_exceptions::ToldThread;
+use py_exceptions::{LastException, ToldThread};
 
 /// The exceptions of a thread.
 #[derive(Drop)]
@@ -20,11 +20,13 @@ pub enum ExceptionsOf {
     Read(Vec<ThreadTold>),
 }
 
-/// The exceptions of an interpreter's threads, as a section tells them.
+/// The exceptions of an interpreter, as a section tells them.
 #[derive(Drop)]
 pub struct InterpreterExceptions {
     /// The address of the interpreter.
     pub interpreter: u64,
     /// Its threads' exceptions, or that they are not described.
     pub exceptions: ExceptionsOf,
+    /// The last exception that no code handled; none where it is not described.
+    pub last: Option<LastException>,
 }

@@ -2,11 +2,11 @@
 ghost use Rattle.std.specs.Prelude.{◌≡◌, ◌++◌, IfOk, OnOk, map, slice_get, string_bytes};
 ghost use Rattle.serde_json.specs.View.{members_view, view};
 ghost use Rattle.thread_exceptions.specs.Groups.{members_of};
-ghost use Rattle.exception_texts.specs.Trees.{own_frames_tree, told_object, met_object, address_text, address_tree, addresses_tree, all_exceptions_tree};
+ghost use Rattle.exception_texts.specs.Trees.{own_frames_tree, told_object, met_object, address_text, address_tree, addresses_tree};
 ghost use Rattle.exception_texts.specs.Trees.{all_reprs_tree, all_strs_tree, arguments_tree, class_tree, end_at};
 ghost use Rattle.exception_texts.specs.Trees.{end_tree, entries_list, entry_tree, exception_tree, fault_tree};
-ghost use Rattle.exception_texts.specs.Trees.{first_members, frame_tree, frames_tree, group_tree, interpreter_tree};
-ghost use Rattle.exception_texts.specs.Trees.{item_tree, items_tree, kind_tree, link_tree, listed_tree, lost_tree};
+ghost use Rattle.exception_texts.specs.Trees.{first_members, frame_tree, frames_tree, group_tree};
+ghost use Rattle.exception_texts.specs.Trees.{item_tree, items_tree, link_tree, listed_tree, lost_tree};
 ghost use Rattle.exception_texts.specs.Trees.{members_tree, message_tree, named_tree, next_members, no_values_tree};
 ghost use Rattle.exception_texts.specs.Trees.{notes_tree, numbered_tree, object_tree, objects_tree, own_class_tree};
 ghost use Rattle.exception_texts.specs.Trees.{own_parts_tree, parts_tree, raised_tree, repr_tree, reprs_tree};
@@ -17,7 +17,7 @@ use crate::frames::shown_line;
 use crate::known::knows;
 use crate::said::push_message;
 use crate::text::{push_known_class, push_named};
-use crate::told::{ExceptionsOf, InterpreterExceptions, ThreadTold};
+use crate::told::ThreadTold;
 use crate::values::{push_repr, push_str_of};
 use elf64_core::Text;
 use py_exceptions::{
@@ -33,7 +33,7 @@ use thread_exceptions::{
 // ---- addresses, texts and ends
 
 /// An address: `0x` and lower-case hexadecimal digits.
-fn address_text(alloc: Global, address: u64) -> Result<String, AllocError>
+pub(crate) fn address_text(alloc: Global, address: u64) -> Result<String, AllocError>
     ensures { IfOk result (λ text. string_bytes text ≡ address_text address) }
 {
     format!(in alloc; "0x{address:x}")
@@ -495,7 +495,7 @@ fn numbered_value(alloc: Global, told: &ToldThread, number: usize) -> Result<Val
 }
 
 /// The objects that were met, in order.
-fn objects_value(alloc: Global, told: &ToldThread) -> Result<Value, AllocError>
+pub(crate) fn objects_value(alloc: Global, told: &ToldThread) -> Result<Value, AllocError>
     ensures { IfOk result (λ own. view own ≡ objects_tree told.now) }
 {
     let mut own = Vec::new(alloc);
@@ -628,70 +628,12 @@ fn thread_value(alloc: Global, thread: &ThreadTold) -> Result<Value, AllocError>
 }
 
 /// Threads, in order.
-fn threads_value(alloc: Global, threads: &[ThreadTold]) -> Result<Value, AllocError>
+pub(crate) fn threads_value(alloc: Global, threads: &[ThreadTold]) -> Result<Value, AllocError>
     ensures { IfOk result (λ own. view own ≡ threads_tree threads.now) }
 {
     let mut own = Vec::new(alloc);
     for thread in threads {
         own.push(thread_value(alloc, thread)?)?;
-    }
-    Ok(Value::Array(own))
-}
-
-/// The threads of an interpreter, where they are told.
-fn kind_value(
-    alloc: Global,
-    interpreter: u64,
-    kind: &str,
-    threads: Value,
-) -> Result<Value, AllocError>
-    ensures { IfOk result (λ own. view own ≡ kind_tree interpreter kind.now (view threads)) }
-{
-    let address = address_text(alloc, interpreter)?;
-    json!(in alloc; {
-        "interpreter": address.as_str(),
-        "kind": kind,
-        "threads": threads
-    })
-}
-
-/// An interpreter.
-fn interpreter_value(alloc: Global, told: &InterpreterExceptions) -> Result<Value, AllocError>
-    ensures { IfOk result (λ own. view own ≡ interpreter_tree told.now) }
-{
-    match &told.exceptions {
-        ExceptionsOf::NotDescribed => {
-            kind_value(alloc, told.interpreter, "not described", Value::Null)
-        }
-        ExceptionsOf::Read(threads) => {
-            let own = threads_value(alloc, threads)?;
-            kind_value(alloc, told.interpreter, "read", own)
-        }
-    }
-}
-
-/// The exceptions as a JSON value: an array of an object for each interpreter, in order, with its address, a `kind`, which
-/// is `read` or `not described`, and its `threads`, or null.
-///
-/// A thread has its `thread_id`; what is `raised`, or null: an `exception` at an `address`, or `parts`, a type and what an
-/// exception is made of; the items that are `handled`, the newest first, each with the `address` that it names, or null,
-/// and the address of what is `running` where it is a generator's or a coroutine's; how the chain of items breaks off, its
-/// `end`, or null; and the `exceptions` that these lead to, each once.
-///
-/// An exception has its `address`, its `type`, its `message` where that is told exactly as Python shows it, whose rule gives
-/// that (`message_by`), its `args` as code has them, the `frames` of its traceback, the oldest call first, of which
-/// `frames_left_out` are missing behind the first 128, how the traceback breaks off, its `end`, its `cause` and its
-/// `context` by their addresses, whether that is suppressed, its `notes` and the `members` of a group. The keys of an object
-/// stand in the order of their bytes. The one error is want of memory.
-pub fn exceptions_value(
-    alloc: Global,
-    exceptions: &[InterpreterExceptions],
-) -> Result<Value, AllocError>
-    ensures { IfOk result (λ own. view own ≡ all_exceptions_tree exceptions.now) }
-{
-    let mut own = Vec::new(alloc);
-    for interpreter in exceptions {
-        own.push(interpreter_value(alloc, interpreter)?)?;
     }
     Ok(Value::Array(own))
 }

@@ -1,3 +1,4 @@
 pub mod Each
+pub mod Lasts
 pub mod Noting
 pub mod Plain

@@ -1,11 +1,13 @@
--- The exceptions of the threads that are shown.
-use Rattle.std.specs.Prelude.{◌≡◌, Bool, List, Option, Some, None, Vec}
+-- The exceptions of the threads that are shown, and the last one of each interpreter that no code handled.
+use Rattle.std.specs.Prelude.{◌≡◌, ℕ, Bool, List, Option, Some, None, Vec}
 use Rattle.std.specs.Global.{Global}
 use Rattle.process_memory.specs.Memory.{Memory}
 use Rattle.py_fields.specs.declared.layout.Layout.{Layout}
 use Rattle.py_records.specs.declared.records.Records.{Records}
 use Rattle.py_exceptions.specs.declared.described.Described.{Described}
+use Rattle.py_exceptions.specs.declared.last.LastException.{LastException}
 use Rattle.py_exceptions.specs.Described.{AreDescribed}
+use Rattle.py_exceptions.specs.Last.{IsLast, last_shown}
 use Rattle.py_exceptions.specs.Threads.{IsTold, told_shown}
 use Rattle.py_fronts.specs.declared.thread_front.ThreadFront.{ThreadFront}
 use Rattle.py_fronts.specs.declared.salvaged.SalvagedInterpreter.{SalvagedInterpreter}
@@ -26,10 +28,17 @@ ExceptionsBy l None m ts told = told ≡ NotDescribed
 ExceptionsBy l (Some d) m ts NotDescribed = ⊥
 ExceptionsBy l (Some d) m ts (Read its) = EachTold (IsThreadTold l d m) ts its.items
 
+-- the last exception that no code handled, of the interpreter at an address, or that it is not described where it stands
+abbrev pub LastBy : Layout → Option Described → Memory → ℕ → Option LastException → Type 0
+LastBy l None m a told = told ≡ None
+LastBy l (Some d) m a None = ⊥
+LastBy l (Some d) m a (Some it) = IsLast l d m a (last_shown it)
+
 pub record AreExceptionsBy (l : Layout) (d : Option Described) (m : Memory) (i : SalvagedInterpreter)
     (told : InterpreterExceptions) : Type 0 where
   pub interpreter_is : told.interpreter ≡ i.front.address
   pub are : ExceptionsBy l d m i.front.threads.threads.items told.exceptions
+  pub last : LastBy l d m i.front.address told.last
 
 -- those of each interpreter, by the places that the records describe, if they do
 pub record AreExceptions (l : Layout) (r : Records) (m : Memory) (is : List SalvagedInterpreter)

@@ -8,7 +8,7 @@ use Rattle.salvage_texts.specs.Escape.{escaped}
 use Rattle.native_stacks.specs.Stacks.{stacks_shown}
 use Rattle.native_stacks.specs.Text.{stacks_text}
 use Rattle.native_stacks.specs.declared.stacks.NativeStacks.{NativeStacks}
-use Rattle.exception_texts.specs.Text.{all_exceptions_text}
+use Rattle.exception_texts.specs.LastText.{all_exceptions_text}
 use Rattle.exception_texts.specs.declared.told.InterpreterExceptions.{InterpreterExceptions}
 use Rattle.task_texts.specs.Text.{all_tasks_text}
 use Rattle.task_texts.specs.declared.told.InterpreterTasks.{InterpreterTasks}

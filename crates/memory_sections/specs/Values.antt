@@ -7,7 +7,7 @@ use Rattle.native_stacks.specs.Trees.{stacks_tree}
 use Rattle.native_stacks.specs.declared.stacks.NativeStacks.{NativeStacks}
 use Rattle.paired_stacks.specs.Trees.{all_tree as paired_tree}
 use Rattle.paired_stacks.specs.declared.stack.PairedStack.{PairedStack}
-use Rattle.exception_texts.specs.Trees.{all_exceptions_tree}
+use Rattle.exception_texts.specs.LastTrees.{all_exceptions_tree}
 use Rattle.exception_texts.specs.declared.told.InterpreterExceptions.{InterpreterExceptions}
 use Rattle.heap_texts.specs.Trees.{heaps_tree}
 use Rattle.py_heap.specs.declared.heap.Heaps.{Heaps}

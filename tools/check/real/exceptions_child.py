@@ -6,8 +6,8 @@
 Run by Python 3.7 or later. HOLDS is what the core is to hold, as coredump_filter has it; LIBRARY is exceptions_child.c as a
 shared library, or `-`. The second form prints the names of all situations that this Python has. It prints one JSON object:
 the number of the `thread` that dies, what it has `raised` and what it has `handled` (addresses, the newest first, with what
-each is the item of), all `exceptions` that these lead to, by address, and the lines that `traceback.format_exception` writes
-of the newest one.
+each is the item of), all `exceptions` that these lead to, by address, the lines that `traceback.format_exception` writes
+of the newest one, and the `last` exception that `sys` has, with all that this leads to.
 """
 
 import asyncio
@@ -121,6 +121,16 @@ def lines_of(thing):
     return traceback.format_exception(type(thing), thing, thing.__traceback__)
 
 
+LAST = "last_exc" if sys.version_info >= (3, 12) else "last_value"
+"""Under which name `sys` has the last exception that no code handled."""
+
+
+def last_one():
+    """What `sys` has there."""
+    thing = getattr(sys, LAST, None)
+    return {"name": LAST, "address": address_of(thing), "exceptions": closure([thing]), "lines": lines_of(thing) if thing is not None else []}
+
+
 def tree_of(handled, raised=None, owners=()):
     """What is to be told where these are handled, the newest first, the first ones in running generators."""
     KEPT.append((handled, raised))
@@ -129,6 +139,7 @@ def tree_of(handled, raised=None, owners=()):
         "raised": raised and {key: address_of(thing) for key, thing in raised.items()},
         "handled": [{"address": address_of(it), "running": address_of(owner)} for it, owner in pairs(handled, owners)],
         "exceptions": closure([*handled, *(raised or {}).values()]), "lines": lines_of(handled[0]) if handled else [],
+        "last": last_one(),
     }
 
 
@@ -203,6 +214,56 @@ def in_excepthook():
     """In the hook for what nobody handles: nothing is handled by then."""
     sys.excepthook = lambda kind, thing, trace: end([])
     fails(ValueError("not handled"))
+
+
+def hook_fails():
+    """In a hook that handles one of its own: both are there."""
+    def hook(kind, thing, trace):
+        """Fails, and dies of it."""
+        dies_of(TypeError("in the hook"))
+
+    sys.excepthook = hook
+    fails(ValueError("not handled"))
+
+
+def last_of_a_chain():
+    """A hook for one that was raised from another."""
+    sys.excepthook = lambda kind, thing, trace: end([])
+    try:
+        fails(KeyError("the cause"))
+    except KeyError as error:
+        raise ValueError("the effect") from error
+
+
+def last_by_hand():
+    """What a debugger or a shell of its own has set."""
+    try:
+        fails(OSError(2, "No such file", "/none/file"))
+    except OSError as caught:
+        setattr(sys, LAST, caught)
+    end([])
+
+
+def last_is_handled():
+    """The same one is handled."""
+    try:
+        fails(ValueError("both"))
+    except ValueError as caught:
+        setattr(sys, LAST, caught)
+        end([caught])
+
+
+def last_is_none():
+    """None is no exception."""
+    setattr(sys, LAST, None)
+    end([])
+
+
+def last_in_a_large_dict():
+    """Behind many names that `sys` was given."""
+    for number in range(1000):
+        setattr(sys, "name_%d" % number, number)
+    last_by_hand()
 
 
 def in_thread_hook():
@@ -632,7 +693,8 @@ def raised_while_handling():
 
 
 ALWAYS = (
-    in_except, in_finally, in_exit, in_excepthook, in_generator, in_coroutine, in_task, in_async_generator, two_generators, cause,
+    in_except, in_finally, in_exit, in_excepthook, hook_fails, last_of_a_chain, last_by_hand, last_is_handled, last_is_none, last_in_a_large_dict,
+    in_generator, in_coroutine, in_task, in_async_generator, two_generators, cause,
     context, suppressed, many_causes, cycle, key_error, own_key, two_keys, os_error, os_one, os_plain, os_text, syntax_error,
     import_error, module_not_found, encodes, encodes_one, decodes, translates, own, own_one, inner_class, other_module, spoken,
     no_argument, number_argument, stop_iteration, leaves, lines_in_text, forged_name, recursion, deep, nested, no_memory, none,

@@ -6,7 +6,7 @@
 For each Python of 3.7 to 3.13 that is installed: processes die in each of the situations of exceptions_child.py, in or below an
 `except`, a `finally`, an `__exit__`, a hook, a generator, a coroutine, or C code that has set an error; and say before what is
 handled, and of each exception that this leads to its class, its text, its traceback, its notes, its cause, its context and its
-members. Exactly these are to be told, each once. Where `traceback.format_exception` has a text of the same form, the text is to
+members; and the same of the last exception that no code handled, as `sys` has it. Exactly these are to be told, each once. Where `traceback.format_exception` has a text of the same form, the text is to
 have the same lines in the same order. Of 3.6 and before nothing is described, and that is what is told. Copies of a core whose
 memory is broken at many places by chance are to end in time, with a status of their own. The status is 0 exactly where nothing
 that was tried failed.
@@ -35,7 +35,7 @@ CODE = Path(__file__).with_name("exceptions_child.c")
 
 FLAG = "--exceptions"
 
-USUAL_ONES = ("cause", "in_generator", "os_error")
+USUAL_ONES = ("cause", "in_excepthook", "in_generator", "os_error")
 """Situations whose cores are as they are usually written, and are shown by the tool too."""
 
 BY_ARGUMENTS = {"decodes", "encodes", "encodes_one", "key_error", "number_argument", "own", "syntax_error", "translates"}
@@ -154,21 +154,25 @@ def python_blocks(text: str) -> Optional[List[Tuple[str, List[str]]]]:
     return blocks
 
 
-def shown_lines(text: str) -> List[str]:
-    """The lines of the newest exception of the thread that has any, without what all begin with."""
+THREAD, LAST = "Exceptions of thread ", "Last exception that no code handled ("
+"""What begins the line above a thread's exceptions, and above the last one."""
+
+
+def shown_lines(text: str, front: str) -> List[str]:
+    """The lines of the newest exception of the thread that has any, or of the last one, without what all begin with."""
     lines = text.splitlines()
-    at = next((number for number, line in enumerate(lines) if line.startswith("Exceptions of thread ")), None)
+    at = next((number for number, line in enumerate(lines) if line.startswith(front)), None)
     if at is None:
         return []
     own = []
-    for line in lines[at + 2:]:
+    for line in lines[at + (2 if front == THREAD else 1):]:
         if not line.startswith("        "):
             break
         own.append(line[8:])
     return own
 
 
-def check_text(text: str, wanted: Tree) -> bool:
+def check_text(text: str, wanted: Tree, front: str = THREAD) -> bool:
     """Fails where the text has other lines than Python's own; answers whether they could be compared."""
     if not wanted["lines"]:
         return False
@@ -177,10 +181,29 @@ def check_text(text: str, wanted: Tree) -> bool:
                  and not re.search("[ :]", it["type"]) for it in wanted["exceptions"].values())
     if blocks is None or not simple or any(not it.isprintable() for it in blocks):
         return False
-    shown = shown_lines(text)
+    shown = shown_lines(text, front)
     if shown != blocks:
         raise Failure(f"the text is {shown} in place of {blocks}")
     return True
+
+
+def check_last(tree: Tree, text: str, wanted: Tree) -> int:
+    """Fails where another exception is told as the last one that no code handled; answers how many it leads to."""
+    main = tree["interpreters"][0]["address"]
+    last = next(own["last"] for own in tree["exceptions"] if own["interpreter"] == main)
+    if (last is not None) != bool(wanted["exceptions"]) or (LAST in text) != (last is not None):
+        raise Failure(f"the last is {last} in place of {wanted}")
+    if last is None:
+        return 0
+    told = {it["address"]: it for it in last["exceptions"]}
+    if (last["kind"], last["name"], last["address"]) != ("exception", wanted["name"], wanted["address"]) or told.keys() != wanted["exceptions"].keys():
+        raise Failure(f"the last is {last} in place of {wanted}")
+    for address, its in told.items():
+        for line in other_parts(its, wanted["exceptions"][address]):
+            raise Failure(f"of the last, the {its['type']} at {address}, {line}")
+    if f"{LAST}sys.{wanted['name']}):" not in text.splitlines() or not check_text(text, wanted, LAST):
+        raise Failure(f"the lines of the last one can't be compared: {text}")
+    return len(told)
 
 
 def check_none(tree: Tree, text: str, number: int) -> None:
@@ -214,13 +237,13 @@ def situations_of(build: Build, has_library: bool) -> List[str]:
     return [it for it in named["all"] if has_library or it not in named["by_c"]]
 
 
-def check_tool(salvage: Path, core: Path, told: Tree, number: int) -> None:
+def check_tool(salvage: Path, core: Path, tree: Tree) -> None:
     """Fails where the tool, which picks the files that it hands over, tells others."""
     words = [sys.executable, "-B", TOOLS / "dump_core.py", core, f"--salvage={salvage}", f"--program={salvage}", "-j"]
     run = ran(words)
     if run.status != 0:
         raise Failure(f"the tool: status {run.status}: {run.err}")
-    if thread_in(json.loads(run.out), number) != told:
+    if json.loads(run.out)["exceptions"] != tree["exceptions"]:
         raise Failure("the tool tells other exceptions")
 
 
@@ -238,9 +261,9 @@ def with_broken(salvage: Path, build: Build, core: Path) -> int:
     return told
 
 
-def in_situation(salvage: Path, build: Build, names: str, room: Path, name: str, code: Optional[Path]) -> Tuple[int, int, bool]:
-    """How many exceptions are told of a process that dies so, of how many of them the text, and whether the lines were compared
-    with Python's own."""
+def in_situation(salvage: Path, build: Build, names: str, room: Path, name: str, code: Optional[Path]) -> Tuple[int, int, bool, int]:
+    """How many exceptions are told of a process that dies so, of how many of them the text, whether the lines were compared
+    with Python's own, and how many the last one leads to that no code handled."""
     room.mkdir()
     holds = USUAL if name in USUAL_ONES else ALL_PRIVATE
     child = aborted([build.executable, *build.alone, "-B", "-W", "ignore", str(CHILD), holds, name, str(code or "-")], room)
@@ -257,12 +280,13 @@ def in_situation(salvage: Path, build: Build, names: str, room: Path, name: str,
             if name not in BY_ARGUMENTS and wanted["exceptions"][its["address"]]["message"] is not None:
                 raise Failure(f"the text of {its['type']} isn't told")
         compared = not wanted["raised"] and not untold and check_text(text, wanted)
-        if name in USUAL_ONES:
-            check_tool(salvage, core, told, number)
+    if name in USUAL_ONES:
+        check_tool(salvage, core, tree)
+    lasts = check_last(tree, text, wanted["last"])
     if name == BROKEN:
         with_broken(salvage, build, core)
     core.unlink()
-    return len(wanted["exceptions"]), texts, compared
+    return len(wanted["exceptions"]), texts, compared, lasts
 
 
 def not_described(salvage: Path, build: Build, names: str, room: Path) -> str:
@@ -291,7 +315,7 @@ def tried_with(salvage: Path, names: str) -> Callable[[str], str]:
                 except Failure as reason:
                     raise Failure(f"{situation}: {reason}") from None
         counts = [sum(its) for its in zip(*found)]
-        return f"{build.dotted}: {len(found)} situations, {counts[0]} exceptions, {counts[1]} with their text, {counts[2]} by their lines"
+        return f"{build.dotted}: {len(found)} situations, {counts[0]} exceptions, {counts[1]} with their text, {counts[2]} by their lines, {counts[3]} as the last"
 
     return tried
 

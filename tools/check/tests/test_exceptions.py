@@ -4,7 +4,7 @@
 import unittest
 
 import rooms  # noqa: F401
-from pystacks_tool.ask.exceptions import all_with, head_of, lines_of, summary_lines
+from pystacks_tool.ask.exceptions import all_with, head_of, last_lines_of, lines_of, summary_lines
 from pystacks_tool.model import Frame, Interpreter, Report, Thread
 
 
@@ -69,6 +69,33 @@ class Lines(unittest.TestCase):
 
     def test_no_exception(self):
         self.assertEqual(lines_of(thread([item(None)], [])), ())
+
+
+class Last(unittest.TestCase):
+    """The last exception that no code handled."""
+
+    def test_lines(self):
+        tree = {"address": "0x2", "kind": "exception", "name": "last_exc", "exceptions": [INNER, OUTER]}
+        self.assertEqual("\n".join(last_lines_of(tree)), """\
+Last exception that no code handled (sys.last_exc):
+        KeyError: 'outer'
+            generator (exc.py:271)
+        During handling of the above exception, another exception occurred:
+        IndexError: list index out of range
+            gen (exc.py:262)""")
+
+    def test_unreadable(self):
+        tree = {"kind": "unreadable", "name": "last_value"}
+        self.assertEqual(last_lines_of(tree), ("Last exception that no code handled: sys.last_value can't be read",))
+
+    def test_none(self):
+        self.assertEqual(last_lines_of(None), ())
+
+    def test_summary(self):
+        last = {"address": "0x1", "kind": "exception", "name": "last_exc", "exceptions": [OUTER]}
+        one = Interpreter((Thread(0x7F00, (Frame("f", "a.py", 3),)),), 0x10)
+        found = all_with((one,), [{"interpreter": "0x10", "kind": "read", "last": last, "threads": []}])
+        self.assertEqual(list(summary_lines(Report(found, "3.12.1"))), ["KeyError: 'outer', the last that no code handled (sys.last_exc)"])
 
 
 class Heads(unittest.TestCase):

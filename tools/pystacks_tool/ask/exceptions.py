@@ -1,4 +1,4 @@
-"""What `pysalvage --exceptions` told of the exceptions of threads."""
+"""What `pysalvage --exceptions` told of the exceptions of threads, and of the last one that no code handled."""
 
 from typing import Dict, Iterator, List, NamedTuple, Optional, Tuple
 
@@ -15,6 +15,9 @@ KEY = "exceptions"
 CAUSE = "The above exception was the direct cause of the following exception:"
 CONTEXT = "During handling of the above exception, another exception occurred:"
 """What Python has between two exceptions."""
+
+LAST = "Last exception that no code handled"
+"""What stands before the one that `sys` has."""
 
 DEEPEST, MOST = 16, 2000
 """How deep members are indented at most, and the most lines of a thread."""
@@ -176,8 +179,29 @@ def lines_of(tree: Tree) -> Tuple[str, ...]:
     roots = [*raised_roots(tree), *(it for item in tree["handled"] for it in item_roots(item))]
     if tree["end"] is not None:
         roots.append(Todo(0, None, f"    ... {end_of(tree['end'])}"))
-    lines = list(shown(tree, roots))
-    return tuple(lines if len(lines) <= MOST else [*lines[:MOST], f"    ... {len(lines) - MOST} more lines"])
+    return tuple(first_lines(list(shown(tree, roots))))
+
+
+def first_lines(lines: List[str]) -> List[str]:
+    """The first lines, and how many more there are."""
+    return lines if len(lines) <= MOST else [*lines[:MOST], f"    ... {len(lines) - MOST} more lines"]
+
+
+def last_lines_of(tree: Optional[Tree]) -> Tuple[str, ...]:
+    """The lines of the last exception that no code handled; none where there is none."""
+    if tree is None:
+        return ()
+    if tree["kind"] == "unreadable":
+        return (f"{LAST}: sys.{tree['name']} can't be read",)
+    return (f"{LAST} (sys.{tree['name']}):", *first_lines(list(shown(tree, [Todo(0, tree["address"])]))))
+
+
+def last_said_of(tree: Optional[Tree]) -> str:
+    """The last exception that no code handled, in a line; nothing where there is none."""
+    if tree is None or tree["kind"] == "unreadable":
+        return ""
+    entry = next((it for it in tree["exceptions"] if it["address"] == tree["address"] and it["kind"] == "exception"), None)
+    return "" if entry is None else f"{said_of(entry)}, the last that no code handled (sys.{tree['name']})"
 
 
 def head_of(tree: Tree) -> Tuple[str, str]:
@@ -193,23 +217,26 @@ def head_of(tree: Tree) -> Tuple[str, str]:
     return "", ""
 
 
-def with_exceptions(interpreter: Interpreter, told: Dict[int, Tree]) -> Interpreter:
-    """The same, with what its threads raise and handle."""
+def with_exceptions(interpreter: Interpreter, tree: Optional[Tree]) -> Interpreter:
+    """The same, with what its threads raise and handle, and the last exception that no code handled."""
+    if tree is None:
+        return interpreter
+    told, last = {row["thread_id"]: row for row in tree["threads"] or ()}, tree.get("last")
     threads = []
     for it in interpreter.threads:
-        tree = told.get(it.number)
-        threads.append(it if tree is None else it._replace(exceptions=lines_of(tree), exception=head_of(tree)))
-    return interpreter._replace(threads=tuple(threads))
+        own = told.get(it.number)
+        threads.append(it if own is None else it._replace(exceptions=lines_of(own), exception=head_of(own)))
+    return interpreter._replace(threads=tuple(threads), last=last_lines_of(last), last_said=last_said_of(last))
 
 
 def all_with(interpreters: Tuple[Interpreter, ...], trees: Optional[List[Tree]]) -> Tuple[Interpreter, ...]:
-    """Interpreters, with what their threads raise and handle."""
-    told = {int(it["interpreter"], 16): {row["thread_id"]: row for row in it["threads"] or ()} for it in trees or ()}
-    return tuple(with_exceptions(it, told.get(it.address or 0, {})) for it in interpreters)
+    """Interpreters, with what their threads raise and handle, and the last exceptions that no code handled."""
+    told = {int(it["interpreter"], 16): it for it in trees or ()}
+    return tuple(with_exceptions(it, told.get(it.address or 0)) for it in interpreters)
 
 
 def summary_lines(report: Report) -> Iterator[str]:
-    """What is said first: each exception that a thread raises, or the newest that it handles."""
+    """What is said first: each exception that a thread raises, or the newest that it handles, and the last that no code handled."""
     def line(thread: Thread) -> str:
         """A thread's."""
         name = "" if thread.name is None else f' "{in_line(thread.name)}"'
@@ -222,3 +249,4 @@ def summary_lines(report: Report) -> Iterator[str]:
     yield from map(line, found[:3])
     if len(found) > 3:
         yield f"... and exceptions of {len(found) - 3} more threads"
+    yield from (it.last_said for it in report.interpreters if it.last_said)

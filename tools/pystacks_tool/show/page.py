@@ -137,6 +137,7 @@ def stacks_part(report: Report, front: str, style: Style) -> str:
             merged = merged_of.get(stack.one.address) if len(stack.threads) == 1 else None
             parts.append(stack_section(stack, f"{front}{count}", style, anchors, merged))
             count += 1
+        parts += [f"<pre>{text_lines(it.last)}</pre>"] if it.last else []
     if report.has_more:
         parts.append("<p class=\"end\">... more than 16 interpreters</p>")
     parts += [f"<p class=\"end\">... {text(it)}</p>" for it in (report.ended, report.left_out) if it]

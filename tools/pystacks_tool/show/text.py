@@ -436,6 +436,14 @@ def register_lines(report: Report, _: Style, __: int) -> Iterator[str]:
             yield "    " + "  ".join(f"{name:>8} {value:016x}" for name, value in rows[at : at + 4])
 
 
+def last_lines(report: Report, style: Style, _: int) -> Iterator[str]:
+    """The last exception of each interpreter that no code handled."""
+    for it in report.interpreters:
+        if it.last and is_titled(report, it):
+            yield heading_of(it)
+        yield from (style.paint(line, BOLD) if at == 0 else line for at, line in enumerate(it.last))
+
+
 def task_lines(report: Report, style: Style, _: int) -> Iterator[str]:
     """The tasks of asyncio, those that stand at one place together: as many lines as a screen has, unless more is asked for."""
     is_short = not (style.shows_all or style.shows_stacks)
@@ -477,7 +485,7 @@ class Part(NamedTuple):
 STACKS = (Part(crashed_lines, is_free=True), Part(table_lines), Part(others_lines))
 """What is shown of threads."""
 
-PARTS = (Part(head_lines), *STACKS, Part(task_lines, is_free=True), Part(native_stack_lines, is_free=True),
+PARTS = (Part(head_lines), *STACKS, Part(last_lines, is_free=True), Part(task_lines, is_free=True), Part(native_stack_lines, is_free=True),
          Part(register_lines, is_free=True))
 """What the text has, in order. A further section is a line here."""
 

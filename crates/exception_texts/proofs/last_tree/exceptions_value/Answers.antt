@@ -3,8 +3,8 @@ use Rattle.std.proofs.lemmas.List.{take_all}
 use Rattle.serde_json.specs.Data.{array}
 use Rattle.serde_json.specs.View.{items_of}
 use Rattle.serde_json.proofs.Views.{view-Array}
-use Rattle.exception_texts.specs.Trees.{interpreter_tree}
-use Rattle.exception_texts.proofs.tree.exceptions_value.Goals as goal
+use Rattle.exception_texts.specs.LastTrees.{interpreter_tree}
+use Rattle.exception_texts.proofs.last_tree.exceptions_value.Goals as goal
 
 pub returns : goal.returns
 returns c =
