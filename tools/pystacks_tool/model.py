@@ -220,6 +220,44 @@ class Tasks(NamedTuple):
     """Whether it has asyncio: else others alone are said."""
 
 
+class HeapClass(NamedTuple):
+    """A class of which the collector tracks objects."""
+
+    name: str
+    objects: int
+    size: int
+    """How many bytes their own blocks have, of those whose size is known."""
+    unknown: int = 0
+    """Of how many of them it isn't."""
+
+
+class Heap(NamedTuple):
+    """What the heap of an interpreter holds."""
+
+    interpreter: str
+    """Its address; nothing of the runtime's, up to 3.8."""
+    classes: Tuple[HeapClass, ...] = ()
+    """Those with the most bytes first."""
+    lists: Tuple[Tuple[str, int], ...] = ()
+    """The lists of the collector, each with how many objects it has."""
+    marks: Tuple[str, ...] = ()
+    """What is said of lists that aren't whole."""
+    fault: str = ""
+    """Why it isn't told, if it isn't."""
+
+
+class Mapped(NamedTuple):
+    """The mappings of one kind."""
+
+    kind: str
+    """A file's name, or what they are."""
+    count: int
+    size: int
+    """How many bytes they have."""
+    held: int
+    """How many of them are in the core."""
+
+
 class Number(NamedTuple):
     """A number of a layout that the dead process tells itself."""
 
@@ -290,6 +328,10 @@ class Report(NamedTuple):
     """What is said of values of locals that are not shown, where there are any."""
     deadlocks: Tuple[str, ...] = ()
     """The rings of threads that wait for each other, each in a line."""
+    heaps: Tuple[Heap, ...] = ()
+    """What the heaps hold, where that is asked for."""
+    mapped: Tuple[Mapped, ...] = ()
+    """The memory of the process by kinds of mappings, where heaps are asked for."""
 
     @property
     def threads(self) -> List[Thread]:

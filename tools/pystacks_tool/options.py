@@ -31,6 +31,8 @@ class Options(NamedTuple):
     """Whether the exceptions of threads are."""
     waits: bool = True
     """Whether it is told what threads wait for."""
+    heap: bool = False
+    """Whether it is told what heaps hold."""
     native: bool = False
     """Whether native stacks are."""
     all_native: bool = False

@@ -5,6 +5,7 @@ from typing import List, Sequence
 
 from pystacks_tool.ask.exceptions import FLAG as EXCEPTIONS
 from pystacks_tool.ask.layout import FLAG
+from pystacks_tool.ask.heap import FLAG as HEAP
 from pystacks_tool.ask.native import FLAG as NATIVE
 from pystacks_tool.ask.tasks import FLAG as TASKS
 from pystacks_tool.ask.waits import FLAG as WAITS
@@ -82,6 +83,7 @@ def salvage_command(options: Options, program: str, core: OpenedCore, with_nativ
     sections += [TASKS] * (options.tasks and knows(program, TASKS) and not tells_tasks_as_text(options, core))
     sections += [EXCEPTIONS] * (options.exceptions and knows(program, EXCEPTIONS))
     sections += [WAITS] * (options.waits and knows(program, WAITS))
+    sections += [HEAP] * (options.heap and knows(program, HEAP))
     sections += native_words(options) * with_native
     records = [f"--records={core.records}"] if core.records else []
     ends = [f"--frames={options.frames}"] if options.frames is not None else []

@@ -10,6 +10,7 @@ from functools import lru_cache, partial
 from typing import List, NamedTuple, Optional, Tuple
 
 from pystacks_tool.ask.dump import Tree, Unexpected, report_by_dump, tree_of
+from pystacks_tool.ask.heap import FLAG as HEAP, KEY as HEAP_KEY, heaps_of
 from pystacks_tool.ask.layout import DIFFERS, layout_in, refusal
 from pystacks_tool.ask.names import add_names, missing_files, readable_names
 from pystacks_tool.ask.native import FLAG as NATIVE, KEY as NATIVE_KEY, PAIRED_KEY, stacks_of as native_stacks_of
@@ -23,6 +24,7 @@ from pystacks_tool.ask.values import hide_in_frames, tells_values
 from pystacks_tool.ask.waits import KEY as WAITS, with_all_waits
 from pystacks_tool.cores.images import OTHER_FILE
 from pystacks_tool.cores.known import Known
+from pystacks_tool.cores.memory import mapped_of
 from pystacks_tool.cores.opened import OpenedCore
 from pystacks_tool.faults import NO_PROGRAM, NO_ROOM, Fault, say, shown
 from pystacks_tool.model import Report, Tasks, arranged
@@ -87,6 +89,7 @@ def ask_salvage(options: Options, core: OpenedCore, program: str) -> Outcome:
     added = partial(ask_for_names_and_values, options, core, program)
     tree, report = report_by_salvage(decoded(answer.out), core.name, added, options.hidden)
     report = with_running_frames(with_tasks(options, core, program, waiting(with_system_ids(report), tree)))
+    report = with_heaps(options, core, program, report, tree)
     if not options.registers:
         # (they were asked for the ids of threads alone)
         tree["registers"], report = None, report._replace(registers=())
@@ -102,6 +105,19 @@ def waiting(report: Report, tree: Tree) -> Report:
         return with_all_waits(report, tree.get(WAITS))
     except (ValueError, KeyError, TypeError) as error:
         raise Unexpected(f"its JSON: {error!r}") from None
+
+
+def with_heaps(options: Options, core: OpenedCore, program: str, report: Report, tree: Tree) -> Report:
+    """The report with what the heaps hold, where that is asked for and the program tells it."""
+    if not options.heap or not knows(program, HEAP):
+        return report
+    try:
+        heaps = heaps_of(tree[HEAP_KEY])
+    except (KeyError, TypeError) as error:
+        raise Unexpected(f"its JSON: {error!r}") from None
+    stacks = [value for it in report.registers for name, value in it.values if name in ("rsp", "sp")]
+    with open(core.word, "rb") as file:
+        return report._replace(heaps=heaps, mapped=mapped_of(file, stacks))
 
 
 def say_missing(files: List[str]) -> None:

@@ -128,10 +128,10 @@ def check_text(words: Iterable[bytes]) -> None:
 
 
 def wishes_of(options: Options) -> Wishes:
-    """How a core is to be prepared. Of a long one a part is made where `pysalvage` is asked, which tells what it missed; else it
-    is cut at its zero pages where it is longer than half of the free memory."""
+    """How a core is to be prepared. Of a long one a part is made where `pysalvage` is asked, which tells what it missed, but not for what heaps
+    hold, of which each object is read; else it is cut at its zero pages where it is longer than half of the free memory."""
     maps, finder = maps_in(options.maps), finder_below(options.files)
-    program = None if options.plain or options.groups_exactly or options.whole else salvage_program(options.salvage, options.program)
+    program = None if options.plain or options.groups_exactly or options.whole or options.heap else salvage_program(options.salvage, options.program)
     if program is None:
         free = free_memory()
         return Wishes(options.keep, None if free is None else free // 2, maps=maps, finder=finder)
@@ -162,8 +162,10 @@ def prepare_core(options: Options, name: str, core: Optional[IO[bytes]]) -> Opti
 
 
 def is_asked_for(options: Options, wanted: Wanted) -> bool:
-    """Whether a file is handed over for the bytes that the core leaves out: with locals each, and for the tasks of asyncio its module,
-    where the names of its types stand."""
+    """Whether a file is handed over for the bytes that the core leaves out: with locals and heaps each, where names of types stand, and for the
+    tasks of asyncio its module."""
+    if options.heap:
+        return True
     if options.locals or options.plain or not options.tasks or not os.path.basename(wanted.name).startswith(b"_asyncio."):
         return options.locals > 0
     program = salvage_program(options.salvage, options.program)

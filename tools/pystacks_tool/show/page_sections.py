@@ -2,8 +2,9 @@
 
 from typing import Iterator, List, NamedTuple, Sequence
 
-from pystacks_tool.model import NativeFrame, NativeStack, Report, Task, Tasks
+from pystacks_tool.model import Heap, Mapped, NativeFrame, NativeStack, Report, Task, Tasks
 from pystacks_tool.show.escape import in_line
+from pystacks_tool.show.heap import counts_of, head_of
 from pystacks_tool.show.native import crashed_first, frame_line, part_lines, stack_title, thread_names
 from pystacks_tool.show.page_frames import items_of, text
 from pystacks_tool.show.tasks import name_of, others_of, summary_of, task_blocks
@@ -89,6 +90,33 @@ def native_of(report: Report) -> Iterator[str]:
         yield native_section(f"n{at}", it, stack_title(it, names.get(it.number)), at < OPEN)
 
 
+# ---- heaps
+
+
+def table_of(titles: Sequence[str], rows: Sequence[Sequence[str]]) -> str:
+    """A table, in which all columns but the last are numbers."""
+    heads = "".join(f"<th>{text(it)}</th>" for it in titles)
+    lines = "\n".join("<tr>" + "".join(f"<td>{text(it)}</td>" for it in row) + "</tr>" for row in rows)
+    return f"<table>\n<tr>{heads}</tr>\n{lines}\n</table>"
+
+
+def mapped_table(mapped: Sequence[Mapped]) -> str:
+    """The memory of the process, by kinds of mappings."""
+    rows = [(f"{it.size:,}", f"{it.held:,}", f"{in_line(it.kind)} ({it.count})") for it in mapped]
+    return table_of(("bytes", "in the core", "mappings"), rows)
+
+
+def heap_part(heap: Heap) -> Iterator[str]:
+    """What a heap holds."""
+    mark = " class=\"end\"" if heap.fault else ""
+    yield f"<p{mark}>{text(head_of(heap))}</p>"
+    if heap.fault:
+        return
+    yield f"<p>{text(counts_of(heap).strip())}</p>"
+    yield from (f"<p class=\"end\">{text(in_line(it))}</p>" for it in heap.marks)
+    yield table_of(("objects", "bytes", "class"), [(f"{it.objects:,}", f"{it.size:,}", in_line(it.name)) for it in heap.classes])
+
+
 def sections_of(report: Report, style: Style) -> List[Section]:
     """The further sections of a page: none of what isn't there, or isn't asked for."""
     found = []
@@ -97,4 +125,7 @@ def sections_of(report: Report, style: Style) -> List[Section]:
         found.append(Section("tasks", "Tasks", "\n".join(rows)))
     if report.shows_native and report.native:
         found.append(Section("native", "Native stacks", "\n".join(native_of(report))))
+    if report.heaps:
+        rows = [mapped_table(report.mapped)] * bool(report.mapped) + [row for it in report.heaps for row in heap_part(it)]
+        found.append(Section("heap", "Memory", "\n".join(rows)))
     return found

@@ -10,6 +10,7 @@ from typing import Callable, Dict, Iterator, List, NamedTuple, Optional, Sequenc
 from pystacks_tool.model import Frame, Interpreter, Local, NativeFrame, NativeStack, Report, Stack, Thread, stacks_of, whole_or_cut
 from pystacks_tool.show.escape import as_function, as_name, in_line, signal_name, with_decimals
 from pystacks_tool.show.folds import Fold, Item, folded
+from pystacks_tool.show.heap import heaps_lines
 from pystacks_tool.show.merged import Gap, row_text, rows_of, runs_of, stack_under
 from pystacks_tool.show.native import end_lines, frame_line, lines_under, native_lines, where_line
 from pystacks_tool.show.sources import Sources
@@ -468,6 +469,11 @@ def native_stack_lines(report: Report, _: Style, __: int) -> Iterator[str]:
     return native_lines(report, is_many(report)) if report.shows_native else iter(())
 
 
+def heap_part(report: Report, style: Style, _: int) -> Iterator[str]:
+    """What the heaps hold, where that is asked for."""
+    return heaps_lines(report, style.shows_all)
+
+
 # ---- the whole
 
 
@@ -486,7 +492,7 @@ STACKS = (Part(crashed_lines, is_free=True), Part(table_lines), Part(others_line
 """What is shown of threads."""
 
 PARTS = (Part(head_lines), *STACKS, Part(last_lines, is_free=True), Part(task_lines, is_free=True), Part(native_stack_lines, is_free=True),
-         Part(register_lines, is_free=True))
+         Part(register_lines, is_free=True), Part(heap_part, is_free=True))
 """What the text has, in order. A further section is a line here."""
 
 
