@@ -13,6 +13,14 @@ const TUPLES: [u64; 18] = [
 /// The same of a class whose objects have a managed dict.
 const PLAIN: [u64; 18] = [48, 0, 0, 0, 0, 0, 0, 0, 0, 0, 0, 0, 0, 0, 0, 0, 0, 0x4010];
 
+/// The same of a class of lists.
+const LISTS: [u64; 18] = [
+    40, 0, 0, 0, 0, 0, 0, 0, 0, 0, 0, 0, 0, 0, 0, 0, 0, 0x200_4000,
+];
+
+/// A list of one item at 0x4000, which has room for four.
+const LIST: [u64; 5] = [1, 0x6000, 1, 0, 4];
+
 /// From 0x3000 on: tuples of two items and of three, an object of the other class, and one of a class that is not in
 /// memory; each of 32 bytes.
 const OBJECTS: [u64; 16] = [
@@ -32,6 +40,8 @@ fn memory(alloc: Global) -> Result<Part, AllocError> {
     pieces.push(piece(alloc, 0x1020, &TUPLES)?)?;
     pieces.push(piece(alloc, 0x2020, &PLAIN)?)?;
     pieces.push(piece(alloc, 0x3000, &OBJECTS)?)?;
+    pieces.push(piece(alloc, 0x4000, &LIST)?)?;
+    pieces.push(piece(alloc, 0x6020, &LISTS)?)?;
     Ok(Part::of(alloc, pieces))
 }
 
@@ -57,6 +67,7 @@ fn class(class: u64, objects: u64, bytes: u64, unknown: u64) -> CountedClass {
         class,
         objects,
         bytes,
+        more: 0,
         unknown,
     }
 }
@@ -85,6 +96,17 @@ fn objects_are_counted_by_class(rt: HostRuntime) -> Result<(), Fail> {
     assert!(rt; census.classes[0] == class(0x1000, 2, 120, 0));
     assert!(rt; census.classes[1] == class(0x2000, 1, 80, 0));
     assert!(rt; census.classes[2] == class(0x5000, 1, 0, 1));
+    Ok(())
+}
+
+#[test]
+fn a_list_has_a_block_of_items(rt: HostRuntime) -> Result<(), Fail> {
+    let Some(census) = counted(rt.alloc(), &[0x4000])? else {
+        assert!(rt; false);
+        return Ok(());
+    };
+    assert!(rt; census.classes.len() == 1);
+    assert!(rt; census.classes[0].bytes == 56 && census.classes[0].more == 32);
     Ok(())
 }
 

@@ -26,7 +26,7 @@ use Rattle.py_census.specs.declared.sizes.ClassSize.{ClassSize}
 use Rattle.py_census.specs.declared.tallies.Tally.{Tally}
 use Rattle.py_census.specs.Censuses.{Counted, IsCensus, IsCounted, Precedes, capped, counted_by, counted_class}
 use Rattle.py_census.specs.Censuses.{counted_of, is_class, own}
-use Rattle.py_census.specs.Sizes.{class_at, class_size_at, size_at}
+use Rattle.py_census.specs.Sizes.{class_at, class_size_at, more_at, size_at}
 use Rattle.py_census.specs.Tallies.{AreTallied, tally_by, tally_of}
 use Rattle.py_census.proofs.Members.{from_mapped, mapped, passes, same_list, some_passes}
 use Rattle.py_census.proofs.Orders.{precedes_once}
@@ -62,45 +62,53 @@ capped_below n = grind arith
 
 -- ---- of one list there is one census
 
-module _ {klass : ℕ → Option ℕ} {size : (class object : ℕ) → Option ℕ} {objects : List ℕ} where
+module _ {klass : ℕ → Option ℕ} {size more : (class object : ℕ) → Option ℕ} {objects : List ℕ} where
   -- a class that one census tells is told by the other
-  has : (a b : Counted) → IsCensus klass size objects a → IsCensus klass size objects b
+  has : (a b : Counted) → IsCensus klass size more objects a → IsCensus klass size more objects b
       → (c : CountedClass) → Contains a.classes c → Contains b.classes c
   has a b p q c h =
-      let mine : IsCounted klass size objects c = All-contains
-      (IsCounted klass size objects) a.classes c p.none_else h in
+      let mine : IsCounted klass size more objects c = All-contains
+      (IsCounted klass size more objects) a.classes c p.none_else h in
       let some = passes (λ object. is_class c.class (klass object)) objects mine.some in
       let told = from_mapped (λ (d : CountedClass). d.class) b.classes c.class
       (q.all some.0 c.class some.1 (is_of c.class (klass some.0) some.2)) in
-      let its : IsCounted klass size objects told.0 =
-      All-contains (IsCounted klass size objects) b.classes told.0 q.none_else told.1 in
-      subst (Contains b.classes) (its.is ∙ ap (counted_class klass size objects) told.2 ∙ sym mine.is) told.1
+      let its : IsCounted klass size more objects told.0 =
+      All-contains (IsCounted klass size more objects) b.classes told.0 q.none_else told.1 in
+      subst (Contains b.classes) (its.is ∙ ap (counted_class klass size more objects) told.2 ∙ sym mine.is) told.1
 
-  pub one_census : (a b : Counted) → IsCensus klass size objects a → IsCensus klass size objects b → a ≡ b
+  pub one_census : (a b : Counted) → IsCensus klass size more objects a → IsCensus klass size more objects b → a ≡ b
   one_census a b p q =
       let classes = same_list Precedes precedes_once a.classes b.classes p.order q.order (has a b p q) (has b a q p) in
       ap (λ cs. record { classes = cs; unreadable = a.unreadable }) classes
       ∙ ap (λ n. record { classes = b.classes; unreadable = n }) (p.unreadable ∙ sym q.unreadable)
 
-  pub is_only : {E : Type 0} (r : Result Census E) → IfOk r (λ census. IsCensus klass size objects (counted_of census))
-      → (other : Counted) → IsCensus klass size objects other → IfOk r (λ census. counted_of census ≡ other)
+  pub is_only : {E : Type 0} (r : Result Census E) → IfOk r (λ census. IsCensus klass size more objects
+      (counted_of census))
+      → (other : Counted) → IsCensus klass size more objects other → IfOk r (λ census. counted_of census ≡ other)
   is_only (Ok census) h other is = one_census (counted_of census) other h is
   is_only (Err e) h other is = tt
 
 -- ---- what was counted is one
 
-tally_is : (sized : Option ClassSize) (size : ℕ → Option ℕ) (class : ℕ) (xs : List ℕ) (v : Tally)
-    → tally_by sized size class xs ≡ Some v
-    → (0 < length xs) × (v.counted ≡ counted_by size class xs)
-tally_is sized size class [] v e = absurd (no_tally v e)
-tally_is sized size class (x ∷ xs) v e =
-    let t : Tally = record { sized = sized; counted = counted_by size class (x ∷ xs) } in
+tally_is : (sized : Option ClassSize) (size more : ℕ → Option ℕ) (class : ℕ) (xs : List ℕ) (v : Tally)
+    → tally_by sized size more class xs ≡ Some v
+    → (0 < length xs) × (v.counted ≡ counted_by size more class xs)
+tally_is sized size more class [] v e = absurd (no_tally v e)
+tally_is sized size more class (x ∷ xs) v e =
+    let t : Tally = record { sized = sized; counted = counted_by size more class (x ∷ xs) } in
     (omega arith, ap (λ (w : Tally). w.counted) (sym (the_same t v e)))
 
-some_tally : (sized : Option ClassSize) (size : ℕ → Option ℕ) (class : ℕ) (xs : List ℕ) → 0 < length xs
-    → (v : Tally) × (tally_by sized size class xs ≡ Some v)
-some_tally sized size class [] h = absurd (omega (arith, h))
-some_tally sized size class (x ∷ xs) h = (record { sized = sized; counted = counted_by size class (x ∷ xs) }, refl)
+some_tally : (sized : Option ClassSize) (size more : ℕ → Option ℕ) (class : ℕ) (xs : List ℕ) → 0 < length xs
+    → (v : Tally) × (tally_by sized size more class xs ≡ Some v)
+some_tally sized size more class [] h = absurd (omega (arith, h))
+some_tally sized size more class (x ∷ xs) h = (
+  record {
+    sized = sized;
+    counted = counted_by size more class
+        (x ∷ xs);
+  },
+  refl,
+)
 
 abbrev Entry : Type 0
 Entry = ℕ × Tally
@@ -132,18 +140,19 @@ rising (e ∷ es) h own = AllPairs-cons Rises e.1.counted (classes_in es)
 
 module _ (l : Layout) (p : SizePlaces) (m : Memory) (objects : List ℕ) where
   abbrev Is : CountedClass → Type 0
-  Is c = IsCounted (class_at l m) (size_at l p m) objects c
+  Is c = IsCounted (class_at l m) (size_at l p m) (more_at l p m) objects c
 
   abbrev IsSo : Entry → Type 0
   IsSo e = Is e.1.counted × IsOwn e
 
   entry_is : (e : Entry) → tally_of l p m objects e.0 ≡ Some e.1 → IsSo e
   entry_is e h =
-      let r = tally_is (class_size_at l p m e.0) (size_at l p m e.0) e.0 (own (class_at l m) objects e.0) e.1 h in
+      let r = tally_is (class_size_at l p m e.0) (size_at l p m e.0) (more_at l p m e.0) e.0 (own
+      (class_at l m) objects e.0) e.1 h in
       let is : e.1.counted.class ≡ e.0 = ap (λ (c : CountedClass). c.class) r.1 in (
         record {
           some = subst (λ k. 0 < length (own (class_at l m) objects k)) (sym is) r.0;
-          is = r.1 ∙ ap (counted_class (class_at l m) (size_at l p m) objects) (sym is);
+          is = r.1 ∙ ap (counted_class (class_at l m) (size_at l p m) (more_at l p m) objects) (sym is);
         },
         is,
       )
@@ -173,7 +182,7 @@ module _ (l : Layout) (p : SizePlaces) (m : Memory) (objects : List ℕ) where
     found object class h e =
         let n = some_passes (λ x. is_class class (class_at l m x)) objects object h (of_it class
         (class_at l m object) e) in
-        let v = some_tally (class_size_at l p m class) (size_at l p m class) class (own
+        let v = some_tally (class_size_at l p m class) (size_at l p m class) (more_at l p m class) class (own
         (class_at l m) objects class) n in
         let held = (btree_map_get_iff nat_cmp_total exact_unsigned t o class v.0).0 (a.classes class ∙ v.1) in (
           v.0.counted,
@@ -183,7 +192,7 @@ module _ (l : Layout) (p : SizePlaces) (m : Memory) (objects : List ℕ) where
         )
 
     pub census : (cs ys : List CountedClass) → cs ≡ classes_in t.entries → IsPermutation cs ys → AllPairs Precedes ys
-        → IsCensus (class_at l m) (size_at l p m) objects (record { classes = ys; unreadable = u })
+        → IsCensus (class_at l m) (size_at l p m) (more_at l p m) objects (record { classes = ys; unreadable = u })
     census cs ys e moved order = record {
       all = λ object class h k.
           let f = found object class h k in

@@ -2,7 +2,7 @@
 use Rattle.std.proofs.Common.{◌≡◌, ℕ, ◌+◌, Bool, true, false, cond, Option, List, [], ◌∷◌, ◌++◌}
 use Rattle.std.proofs.Common.{length, refl, sym}
 use Rattle.std.proofs.Common.{◌∙◌, ap, arith, append-nil, nat_eq}
-use Rattle.std.specs.Prelude.{None, Some, if◌then◌else◌, is_none, unwrap_or, sum_by}
+use Rattle.std.specs.Prelude.{None, Some, if◌then◌else◌, is_none, unwrap_or}
 use Rattle.std.specs.BTreeMap.{BTreeMap, Updates, get, is_at}
 use Rattle.std.specs.Cmp.{Equal-is, nat_cmp_is}
 use Rattle.std.specs.Ordering.{nat_cmp}
@@ -15,9 +15,10 @@ use Rattle.std.proofs.lemmas.Map.Lookups.{exact_unsigned}
 use Rattle.process_memory.specs.Memory.{Memory}
 use Rattle.py_fields.specs.declared.layout.Layout.{Layout}
 use Rattle.py_census.specs.declared.places.SizePlaces.{SizePlaces}
+use Rattle.py_census.specs.declared.sizes.ClassSize.{ClassSize}
 use Rattle.py_census.specs.declared.tallies.Tally.{Tally}
-use Rattle.py_census.specs.Censuses.{capped, is_class, own, unknown}
-use Rattle.py_census.specs.Sizes.{class_at, class_size_at, size_at}
+use Rattle.py_census.specs.Censuses.{capped, is_class, own, sizes, unknown}
+use Rattle.py_census.specs.Sizes.{class_at, class_size_at, more_at, size_at}
 use Rattle.py_census.specs.Tallies.{AreTallied, IsMet, tally_after, tally_by, tally_of, tally_or_new, tally_with}
 
 same : (x y : ℕ) → nat_eq x y ≡ true → y ≡ x
@@ -61,52 +62,44 @@ own_more : (klass : ℕ → Option ℕ) (xs : List ℕ) (x class : ℕ) (b : Boo
 own_more klass xs x class b e = filter-append (λ object. is_class class (klass object)) xs (x ∷ [])
     ∙ ap (λ b. own klass xs class ++ cond b (x ∷ []) []) e
 
+abbrev made : Option ClassSize → (class objects bytes more unknown : ℕ) → Option Tally
+made s class o b w u = Some (record {
+  sized = s;
+  counted = record { class = class; objects = o; bytes = b; more = w; unknown = u };
+})
+
+-- a sum of what is known, and of one more
+known_more : (f : ℕ → Option ℕ) (zs : List ℕ) (x : ℕ) → capped (capped (sizes f zs) + unwrap_or (f x) 0) ≡ capped
+    (sizes f (zs ++ x ∷ []))
+known_more f zs x = capped_more (sizes f zs) (unwrap_or (f x) 0) ∙ ap capped (sym (sum_by_push (λ a. unwrap_or
+    (f a) 0) zs x))
+
 one_more : (l : Layout) (p : SizePlaces) (m : Memory) (class x : ℕ) (ys : List ℕ)
     → Some (tally_with l p m x (tally_or_new (class_size_at l p m class) class
-    (tally_by (class_size_at l p m class) (size_at l p m class) class ys)))
-    ≡ tally_by (class_size_at l p m class) (size_at l p m class) class (ys ++ x ∷ [])
+    (tally_by (class_size_at l p m class) (size_at l p m class) (more_at l p m class) class ys)))
+    ≡ tally_by (class_size_at l p m class) (size_at l p m class) (more_at l p m class) class (ys ++ x ∷ [])
 one_more l p m class x [] = refl
 one_more l p m class x (y ∷ ys) =
+    let s = class_size_at l p m class in
     let size = size_at l p m class in
+    let more = more_at l p m class in
     let zs = y ∷ ys in
+    let all = zs ++ x ∷ [] in
     let o = capped_more (length zs) 1 ∙ ap capped (sym (length_push zs x)) in
-    let b = capped_more (sum_by (λ a. unwrap_or (size a) 0) zs) (unwrap_or (size x) 0)
-    ∙ ap capped (sym (sum_by_push (λ a. unwrap_or (size a) 0) zs x)) in
     let u = capped_more (unknown size zs) (cond (is_none (size x)) 1 0)
     ∙ ap capped (sym (sum_by_push (λ a. cond (is_none (size a)) 1 0) zs x)) in
-    ap (λ n. Some (record {
-      sized = class_size_at l p m class;
-      counted = record {
-        class = class;
-        objects = n;
-        bytes = capped (capped (sum_by (λ a. unwrap_or (size a) 0) zs) + unwrap_or (size x) 0);
-        unknown = capped (capped (unknown size zs) + cond (is_none (size x)) 1 0);
-      };
-    })) o
-    ∙ ap (λ n. Some (record {
-      sized = class_size_at l p m class;
-      counted = record {
-        class = class;
-        objects = capped (length (zs ++ x ∷ []));
-        bytes = n;
-        unknown = capped (capped (unknown size zs) + cond (is_none (size x)) 1 0);
-      };
-    })) b
-    ∙ ap (λ n. Some (record {
-      sized = class_size_at l p m class;
-      counted = record {
-        class = class;
-        objects = capped (length (zs ++ x ∷ []));
-        bytes = capped (sum_by (λ a. unwrap_or (size a) 0) (zs ++ x ∷ []));
-        unknown = n;
-      };
-    })) u
+    let b' = capped (capped (sizes size zs) + unwrap_or (size x) 0) in
+    let w' = capped (capped (sizes more zs) + unwrap_or (more x) 0) in
+    let u' = capped (capped (unknown size zs) + cond (is_none (size x)) 1 0) in
+    ap (λ n. made s class n b' w' u') o ∙ ap (λ n. made s class (capped (length all)) n w' u') (known_more size zs x)
+    ∙ ap (λ n. made s class (capped (length all)) (capped (sizes size all)) n u') (known_more more zs x)
+    ∙ ap (λ n. made s class (capped (length all)) (capped (sizes size all)) (capped (sizes more all)) n) u
 
 module _ (l : Layout) (p : SizePlaces) (m : Memory) (xs : List ℕ) (x : ℕ) where
   -- an object of another class
   others : (class : ℕ) → is_class class (class_at l m x) ≡ false → tally_of l p m xs class ≡ tally_of l p m
       (xs ++ x ∷ []) class
-  others class e = ap (tally_by (class_size_at l p m class) (size_at l p m class) class)
+  others class e = ap (tally_by (class_size_at l p m class) (size_at l p m class) (more_at l p m class) class)
       (sym (own_more (class_at l m) xs x class false e ∙ append-nil (own (class_at l m) xs class)))
 
   -- and one of this
@@ -114,7 +107,7 @@ module _ (l : Layout) (p : SizePlaces) (m : Memory) (xs : List ℕ) (x : ℕ) wh
       → Some (tally_with l p m x (tally_or_new (class_size_at l p m class) class (tally_of l p m xs class)))
       ≡ tally_of l p m (xs ++ x ∷ []) class
   ours class e = one_more l p m class x (own (class_at l m) xs class)
-      ∙ ap (tally_by (class_size_at l p m class) (size_at l p m class) class) (sym (own_more
+      ∙ ap (tally_by (class_size_at l p m class) (size_at l p m class) (more_at l p m class) class) (sym (own_more
       (class_at l m) xs x class true e))
 
   after : (its : Option ℕ) (f : ℕ → Option Tally) → class_at l m x ≡ its → ((c : ℕ) → f c ≡ tally_of l p m xs c)

@@ -34,34 +34,36 @@ abbrev pub unknown : (ℕ → Option ℕ) → List ℕ → ℕ
 unknown known objects = count_by (λ object. is_none (known object)) objects
 
 -- what is counted of a class of which these are the objects
-abbrev pub counted_by : (size : ℕ → Option ℕ) → (class : ℕ) → List ℕ → CountedClass
-counted_by size class objects = record {
+abbrev pub counted_by : (size more : ℕ → Option ℕ) → (class : ℕ) → List ℕ → CountedClass
+counted_by size more class objects = record {
   class = class;
   objects = capped (length objects);
   bytes = capped (sizes size objects);
+  more = capped (sizes more objects);
   unknown = capped (unknown size objects);
 }
 
 -- what is counted of a class among some objects
-abbrev pub counted_class : (klass : ℕ → Option ℕ) → (size : (class object : ℕ) → Option ℕ) → List ℕ → (class : ℕ)
+abbrev pub counted_class : (klass : ℕ → Option ℕ) → (size more : (class object : ℕ) → Option ℕ) → List ℕ → (class : ℕ)
     → CountedClass
-counted_class klass size objects class = counted_by (size class) class (own klass objects class)
+counted_class klass size more objects class = counted_by (size class) (more class) class (own klass objects class)
 
 -- most bytes first, then by address
 abbrev pub Precedes : CountedClass → CountedClass → Type 0
 Precedes x y = (y.bytes < x.bytes) ⊎ ((x.bytes ≡ y.bytes) × (x.class < y.class))
 
 -- a class that has objects, and what is said of it is so
-pub record IsCounted (klass : ℕ → Option ℕ) (size : (class object : ℕ) → Option ℕ) (objects : List ℕ)
+pub record IsCounted (klass : ℕ → Option ℕ) (size more : (class object : ℕ) → Option ℕ) (objects : List ℕ)
     (c : CountedClass) : Type 0 where
   pub some : 0 < length (own klass objects c.class)
-  pub is : c ≡ counted_class klass size objects c.class
+  pub is : c ≡ counted_class klass size more objects c.class
 
 -- what is counted of some objects: each class that one of them has, once, and none else, in order
-pub record IsCensus (klass : ℕ → Option ℕ) (size : (class object : ℕ) → Option ℕ) (objects : List ℕ) (census : Counted)
+pub record IsCensus (klass : ℕ → Option ℕ) (size more : (class object : ℕ) → Option ℕ) (objects : List ℕ)
+    (census : Counted)
     : Type 0 where
   pub all : (object class : ℕ) → Contains objects object → klass object ≡ Some class
       → Contains (map (λ c. c.class) census.classes) class
-  pub none_else : All (IsCounted klass size objects) census.classes
+  pub none_else : All (IsCounted klass size more objects) census.classes
   pub order : AllPairs Precedes census.classes
   pub unreadable : census.unreadable ≡ capped (unknown klass objects)

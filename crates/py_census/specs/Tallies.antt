@@ -10,17 +10,18 @@ use Rattle.py_census.specs.declared.places.SizePlaces.{SizePlaces}
 use Rattle.py_census.specs.declared.sizes.ClassSize.{ClassSize}
 use Rattle.py_census.specs.declared.tallies.Tally.{Tally}
 use Rattle.py_census.specs.Censuses.{capped, counted_by, own, unknown}
-use Rattle.py_census.specs.Sizes.{class_at, class_size_at, size_at, size_by}
+use Rattle.py_census.specs.Sizes.{class_at, class_size_at, more_at, more_by, size_at, size_by}
 
 -- what is kept of a class of which these are the objects so far
-abbrev pub tally_by : (sized : Option ClassSize) → (size : ℕ → Option ℕ) → (class : ℕ) → List ℕ → Option Tally
-tally_by sized size class [] = None
-tally_by sized size class (x ∷ xs) = Some (record { sized = sized; counted = counted_by size class (x ∷ xs) })
+abbrev pub tally_by : (sized : Option ClassSize) → (size more : ℕ → Option ℕ) → (class : ℕ) → List ℕ → Option Tally
+tally_by sized size more class [] = None
+tally_by sized size more class (x ∷ xs) = Some (record { sized = sized; counted = counted_by size more class (x ∷ xs) })
 
 -- what is kept of a class once these objects were met
 abbrev pub tally_of : Layout → SizePlaces → Memory → List ℕ → (class : ℕ) → Option Tally
 tally_of l p m objects class =
-    tally_by (class_size_at l p m class) (size_at l p m class) class (own (class_at l m) objects class)
+    tally_by (class_size_at l p m class) (size_at l p m class) (more_at l p m class) class (own
+    (class_at l m) objects class)
 
 -- all that is kept once these objects were met
 pub record AreTallied (l : Layout) (p : SizePlaces) (m : Memory) (objects : List ℕ) (tallies : BTreeMap ℕ Tally)
@@ -30,16 +31,17 @@ pub record AreTallied (l : Layout) (p : SizePlaces) (m : Memory) (objects : List
 
 -- ---- one more object
 
-abbrev pub with_object : CountedClass → (size : Option ℕ) → CountedClass
-with_object c size = record {
+abbrev pub with_object : CountedClass → (size more : Option ℕ) → CountedClass
+with_object c size more = record {
   class = c.class;
   objects = capped (c.objects + 1);
   bytes = capped (c.bytes + unwrap_or size 0);
+  more = capped (c.more + unwrap_or more 0);
   unknown = capped (c.unknown + (if is_none size then 1 else 0));
 }
 
 abbrev pub no_objects : (class : ℕ) → CountedClass
-no_objects class = record { class = class; objects = 0; bytes = 0; unknown = 0 }
+no_objects class = record { class = class; objects = 0; bytes = 0; more = 0; unknown = 0 }
 
 -- what is kept of a class; of one that is met first, what its record says
 abbrev pub tally_or_new : (sized : Option ClassSize) → (class : ℕ) → Option Tally → Tally
@@ -49,7 +51,7 @@ tally_or_new sized class (Some tally) = tally
 abbrev pub tally_with : Layout → SizePlaces → Memory → (object : ℕ) → Tally → Tally
 tally_with l p m object t = record {
   sized = t.sized;
-  counted = with_object t.counted (size_by l p m t.sized object);
+  counted = with_object t.counted (size_by l p m t.sized object) (more_by p m t.sized object);
 }
 
 -- what is kept of a class once one more object was met, whose class is given

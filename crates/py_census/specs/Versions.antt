@@ -1,7 +1,8 @@
 -- Where the sizes of objects stand, by version: `PyVarObject` of Include/object.h and `PyTypeObject` of
 -- Include/cpython/object.h (up to 3.7 both of Include/object.h), `PyGC_Head` of Include/objimpl.h (3.7),
--- Include/cpython/objimpl.h and Include/internal/pycore_gc.h, and `_PyType_PreHeaderSize` of
--- Include/internal/pycore_object.h. The numbers are those of machines of 8 byte words.
+-- Include/cpython/objimpl.h and Include/internal/pycore_gc.h, `_PyType_PreHeaderSize` of
+-- Include/internal/pycore_object.h, and `PyListObject` of Include/cpython/listobject.h (up to 3.8
+-- Include/listobject.h). The numbers are those of machines of 8 byte words.
 use Rattle.std.specs.Prelude.{ℕ, nat_eq, ◌||◌, if◌then◌else◌, Option, Some, None}
 use Rattle.py_census.specs.declared.places.SizePlaces.{SizePlaces}
 use Rattle.py_census.specs.declared.places.WordsBefore.{WordsBefore}
@@ -10,6 +11,7 @@ use Rattle.py_census.specs.declared.places.WordsBefore.TheVariants.{Never, Dict,
 abbrev pub places_with : (head_size : ℕ) → WordsBefore → SizePlaces
 places_with head_size words_before = record {
   count = 16;
+  allocated = 32;
   basic_size = 32;
   item_size = 40;
   head_size = head_size;

@@ -4,7 +4,7 @@ ghost use Rattle.std.specs.BTreeMap.{IsOrdered, values};
 ghost use Rattle.std.specs.Ordering.{nat_cmp};
 ghost use Rattle.process_memory.specs.Seen.{Reading};
 ghost use Rattle.py_census.specs.Censuses.{Counted, IsCensus, Precedes, counted_of};
-ghost use Rattle.py_census.specs.Sizes.{class_at, size_at};
+ghost use Rattle.py_census.specs.Sizes.{class_at, more_at, size_at};
 
 use crate::SizePlaces;
 use crate::tallies::{Tally, meet_objects};
@@ -22,6 +22,9 @@ pub struct CountedClass {
     pub objects: u64,
     /// How many bytes their own blocks have in all, of those whose size is known.
     pub bytes: u64,
+    /// How many bytes there are beside these in blocks of their own, as far as they are known: those of the items that
+    /// lists have room for.
+    pub more: u64,
     /// Of how many of them the size is not known: what their class says of it, or their count of items, is not in
     /// memory, or it is 2^64 bytes or more.
     pub unknown: u64,
@@ -61,7 +64,7 @@ fn put_in_order(classes: &mut Vec<CountedClass>) -> Result<(), AllocError>
     classes.sort_by_key(|class| u64::MAX - class.bytes)
 }
 
-/// What is counted of some objects. At most 5 reads of each.
+/// What is counted of some objects. At most 6 reads of each.
 fn counted<P: ProcessMemory>(
     alloc: Global,
     process: &mut P,
@@ -69,9 +72,9 @@ fn counted<P: ProcessMemory>(
     places: &SizePlaces,
     objects: &[u64],
 ) -> Result<Census, AllocError>
-    ensures { Reading (5 * length objects.now) (P.seen process.old) (P.seen process.new)
-        (λ m. IfOk result (λ census. IsCensus (class_at layout.now m) (size_at layout.now places.now m) objects.now
-        (counted_of census))) }
+    ensures { Reading (6 * length objects.now) (P.seen process.old) (P.seen process.new)
+        (λ m. IfOk result (λ census. IsCensus (class_at layout.now m) (size_at layout.now places.now m)
+        (more_at layout.now places.now m) objects.now (counted_of census))) }
 {
     let mut tallies = BTreeMap::new(alloc);
     let unreadable = meet_objects(process, layout, places, &mut tallies, objects)?;
@@ -88,7 +91,7 @@ fn counted<P: ProcessMemory>(
 /// most bytes first, then by address. An address that stands twice counts twice.
 ///
 /// There is one such answer alone. What is not in memory is told as not known. The one error is want of memory. At most
-/// 5 reads of each object.
+/// 6 reads of each object.
 pub fn count_objects<P: ProcessMemory>(
     alloc: Global,
     process: &mut P,
@@ -96,11 +99,12 @@ pub fn count_objects<P: ProcessMemory>(
     places: &SizePlaces,
     objects: &[u64],
 ) -> Result<Census, AllocError>
-    ensures right { Reading (5 * length objects.now) (P.seen process.old) (P.seen process.new)
-        (λ m. IfOk result (λ census. IsCensus (class_at layout.now m) (size_at layout.now places.now m) objects.now
-        (counted_of census))) }
-    ensures only { Reading (5 * length objects.now) (P.seen process.old) (P.seen process.new)
-        (λ m. (other : Counted) → IsCensus (class_at layout.now m) (size_at layout.now places.now m) objects.now other
+    ensures right { Reading (6 * length objects.now) (P.seen process.old) (P.seen process.new)
+        (λ m. IfOk result (λ census. IsCensus (class_at layout.now m) (size_at layout.now places.now m)
+        (more_at layout.now places.now m) objects.now (counted_of census))) }
+    ensures only { Reading (6 * length objects.now) (P.seen process.old) (P.seen process.new)
+        (λ m. (other : Counted) → IsCensus (class_at layout.now m) (size_at layout.now places.now m)
+        (more_at layout.now places.now m) objects.now other
         → IfOk result (λ census. counted_of census ≡ other)) }
 {
     counted(alloc, process, layout, places, objects)

@@ -1,8 +1,11 @@
 //! A census of objects: of each class how many there are, and how many bytes their own blocks have.
 //!
+//! Beside it the items of lists are counted, for which a list has a block of its own (`allocated`, at 32, in each of
+//! these versions).
+//!
 //! An object's own block has the bytes that its class states for each object, those of its items where it has a count
 //! of items, and what stands before the object: the head of the collector and the words of a managed dict. What other
-//! blocks it has, such as a list's items or a dict's keys, is not counted.
+//! blocks it has, such as a dict's keys, is not counted.
 //!
 //! Where sizes stand, in bytes from the start of an object or of a class on, as `size_places` has them: the count of
 //! items at 16 (`ob_size`; from 3.12 on `lv_tag` of an integer), the bytes of each object of a class at 32

@@ -17,6 +17,8 @@ pub enum WordsBefore {
 pub struct SizePlaces {
     /// In an object: how many items it has, where its class says that it has a count.
     pub count: u64,
+    /// In a list: how many items it has room for.
+    pub allocated: u64,
     /// In a class: how many bytes an object of it has without its items.
     pub basic_size: u64,
     /// In a class: how many bytes an item has.

@@ -8,7 +8,7 @@ ghost use Rattle.py_census.specs.Tallies.{AreTallied, IsMet, no_objects, tally_a
 
 use crate::SizePlaces;
 use crate::census::CountedClass;
-use crate::sizes::{ClassSize, read_class, read_class_size, read_size};
+use crate::sizes::{ClassSize, read_class, read_class_size, read_more, read_size};
 use process_memory::ProcessMemory;
 use py_fields::Layout;
 use std::alloc::AllocError;
@@ -31,18 +31,20 @@ fn no_objects(class: u64) -> CountedClass
         class,
         objects: 0,
         bytes: 0,
+        more: 0,
         unknown: 0,
     }
 }
 
 /// One more object of a class.
-fn with_object(counted: CountedClass, size: Option<u64>) -> CountedClass
-    ensures { result ≡ with_object counted size }
+fn with_object(counted: CountedClass, size: Option<u64>, more: Option<u64>) -> CountedClass
+    ensures { result ≡ with_object counted size more }
 {
     CountedClass {
         class: counted.class,
         objects: counted.objects.saturating_add(1),
         bytes: counted.bytes.saturating_add(size.unwrap_or(0)),
+        more: counted.more.saturating_add(more.unwrap_or(0)),
         unknown: counted.unknown.saturating_add(u64::from(size.is_none())),
     }
 }
@@ -77,7 +79,7 @@ fn tally_at<P: ProcessMemory>(
     }
 }
 
-/// Counts one more object, whose class is given. At most 4 reads.
+/// Counts one more object, whose class is given. At most 5 reads.
 fn add_object<P: ProcessMemory>(
     process: &mut P,
     layout: &Layout,
@@ -86,13 +88,14 @@ fn add_object<P: ProcessMemory>(
     its: u64,
     object: u64,
 ) -> Result<(), AllocError>
-    ensures { Reading 4 (P.seen process.old) (P.seen process.new) (λ m. OnOk result
+    ensures { Reading 5 (P.seen process.old) (P.seen process.new) (λ m. OnOk result
         ((class : ℕ) → get nat_cmp tallies.new class
         ≡ tally_after layout.now places.now m object (Some its) (get nat_cmp tallies.old) class)) }
 {
     let tally = tally_at(process, layout, places, tallies, its)?;
     let size = read_size(process, layout, places, tally.sized, object)?;
-    let counted = with_object(tally.counted, size);
+    let more = read_more(process, places, tally.sized, object)?;
+    let counted = with_object(tally.counted, size, more);
     tallies.insert(
         its,
         Tally {
@@ -103,7 +106,7 @@ fn add_object<P: ProcessMemory>(
     Ok(())
 }
 
-/// Counts one more object; and whether its class is not known, so that it is counted with none. At most 5 reads.
+/// Counts one more object; and whether its class is not known, so that it is counted with none. At most 6 reads.
 fn meet_object<P: ProcessMemory>(
     process: &mut P,
     layout: &Layout,
@@ -111,7 +114,7 @@ fn meet_object<P: ProcessMemory>(
     tallies: &mut BTreeMap<u64, Tally>,
     object: u64,
 ) -> Result<bool, AllocError>
-    ensures { Reading 5 (P.seen process.old) (P.seen process.new) (λ m. IfOk result
+    ensures { Reading 6 (P.seen process.old) (P.seen process.new) (λ m. IfOk result
         (IsMet layout.now places.now m object tallies.old tallies.new)) }
 {
     let its = read_class(process, layout, object)?;
@@ -124,7 +127,7 @@ fn meet_object<P: ProcessMemory>(
     }
 }
 
-/// Counts some objects by their classes; and of how many of them the class is not known. At most 5 reads of each.
+/// Counts some objects by their classes; and of how many of them the class is not known. At most 6 reads of each.
 pub(crate) fn meet_objects<P: ProcessMemory>(
     process: &mut P,
     layout: &Layout,
@@ -133,7 +136,7 @@ pub(crate) fn meet_objects<P: ProcessMemory>(
     objects: &[u64],
 ) -> Result<u64, AllocError>
     requires none { (class : ℕ) → get nat_cmp tallies.old class ≡ None }
-    ensures { Reading (5 * length objects.now) (P.seen process.old) (P.seen process.new) (λ m. IfOk result
+    ensures { Reading (6 * length objects.now) (P.seen process.old) (P.seen process.new) (λ m. IfOk result
         (AreTallied layout.now places.now m objects.now tallies.new)) }
 {
     let mut unreadable: u64 = 0;

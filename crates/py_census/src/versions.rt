@@ -10,6 +10,7 @@ fn places_with(head_size: u64, words_before: WordsBefore) -> SizePlaces
 {
     SizePlaces {
         count: 16,
+        allocated: 32,
         basic_size: 32,
         item_size: 40,
         head_size,
