@@ -227,8 +227,15 @@ class HeapClass(NamedTuple):
     objects: int
     size: int
     """How many bytes their own blocks have, of those whose size is known."""
+    more: int = 0
+    """How many the items of lists have beside."""
     unknown: int = 0
     """Of how many of them it isn't."""
+
+    @property
+    def total(self) -> int:
+        """All of these bytes."""
+        return self.size + self.more
 
 
 class Heap(NamedTuple):

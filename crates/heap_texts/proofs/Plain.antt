@@ -35,7 +35,7 @@ name None = refl
 name (Some n) = refl
 
 class : (c : HeapClass) → has_float (class_tree c) ≡ false
-class c = λ i. false || (false || (name c.name i || (false || (false || false))))
+class c = λ i. false || (false || (false || (name c.name i || (false || (false || false)))))
 
 classes : (cs : List HeapClass) → has_float (classes_tree cs) ≡ false
 classes [] = refl

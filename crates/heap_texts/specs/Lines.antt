@@ -38,10 +38,14 @@ unknown_text n = if n == 0 then [] else codes ", " ++ (decimal n ++ codes " of u
 abbrev pub size_text : (objects bytes : ℕ) → List ℕ
 size_text objects bytes = codes "    " ++ (decimal objects ++ (codes " objects, " ++ (decimal bytes ++ codes " bytes")))
 
+-- how many bytes the items of lists have, where there are any
+abbrev pub more_text : ℕ → List ℕ
+more_text n = if n == 0 then [] else codes " and " ++ (decimal n ++ codes " of items")
+
 -- how many objects there are of a class, how many bytes, and its name, which ends the line
 abbrev pub class_line : HeapClass → List ℕ
-class_line c = size_text c.counted.objects c.counted.bytes ++ (unknown_text c.counted.unknown ++ (codes ": "
-    ++ (named_text c.name ++ codes "\n")))
+class_line c = size_text c.counted.objects c.counted.bytes ++ (more_text c.counted.more
+    ++ (unknown_text c.counted.unknown ++ (codes ": " ++ (named_text c.name ++ codes "\n"))))
 
 -- how many classes have no line, where there is one
 abbrev pub rest_line : (classes : ℕ) → List ℕ

@@ -51,9 +51,10 @@ abbrev pub class_tree : HeapClass → Data
 class_tree c = object (
     member (codes "address") (string (address_text c.counted.class)) (
     member (codes "bytes") (number (unsigned c.counted.bytes)) (
+    member (codes "more") (number (unsigned c.counted.more)) (
     member (codes "name") (name_tree c.name) (
     member (codes "objects") (number (unsigned c.counted.objects)) (
-    member (codes "unknown") (number (unsigned c.counted.unknown)) no_members)))))
+    member (codes "unknown") (number (unsigned c.counted.unknown)) no_members))))))
 
 abbrev pub classes_tree : List HeapClass → Data
 classes_tree classes = array (items_of (map (λ c. class_tree c) classes))

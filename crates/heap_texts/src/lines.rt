@@ -1,7 +1,7 @@
 //! The parts of the lines of a heap.
 ghost use Rattle.std.specs.Prelude.{◌≡◌, ◌++◌, OnOk, string_bytes};
 ghost use Rattle.heap_texts.specs.Lines.{class_line, collecting_line, counts_text, lead_text, list_line, size_text};
-ghost use Rattle.heap_texts.specs.Lines.{lost_line, rest_line, unknown_text};
+ghost use Rattle.heap_texts.specs.Lines.{lost_line, more_text, rest_line, unknown_text};
 
 use exception_texts::push_named;
 use gc_lists::ListEnd;
@@ -68,6 +68,16 @@ fn push_unknown(text: &mut String, unknown: u64) -> Result<(), AllocError>
     write!(text, ", {unknown} of unknown size")
 }
 
+/// How many bytes the items of lists have, where there are any.
+fn push_more(text: &mut String, more: u64) -> Result<(), AllocError>
+    ensures { OnOk result (string_bytes text.new ≡ string_bytes text.old ++ more_text more) }
+{
+    if more == 0 {
+        return Ok(());
+    }
+    write!(text, " and {more} of items")
+}
+
 /// How many objects there are of a class, and how many bytes.
 fn push_size(text: &mut String, objects: u64, bytes: u64) -> Result<(), AllocError>
     ensures { OnOk result (string_bytes text.new ≡ string_bytes text.old ++ size_text objects bytes) }
@@ -84,6 +94,7 @@ pub(crate) fn push_class(
     ensures { OnOk result (string_bytes text.new ≡ string_bytes text.old ++ class_line class.now) }
 {
     push_size(text, class.counted.objects, class.counted.bytes)?;
+    push_more(text, class.counted.more)?;
     push_unknown(text, class.counted.unknown)?;
     text.push_str(": ")?;
     push_named(alloc, text, &class.name)?;

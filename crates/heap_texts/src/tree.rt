@@ -89,6 +89,7 @@ fn class_value(alloc: Global, class: &HeapClass) -> Result<Value, AllocError>
     json!(in alloc; {
         "address": address.as_str(),
         "bytes": class.counted.bytes,
+        "more": class.counted.more,
         "name": name,
         "objects": class.counted.objects,
         "unknown": class.counted.unknown
@@ -196,8 +197,9 @@ fn runtime_value(alloc: Global, told: &Option<HeapTold>) -> Result<Value, AllocE
 /// Its `kind` is `heap`, `no lists`, or `no runtime` where no symbol tells where the runtime's record is. A heap has its
 /// `lists` (`youngest`, `middle`, `oldest`, `permanent`), each with how many `objects` it has and how it ends (`kind`
 /// `whole`, `torn`, `unreadable` or `cut`, the last three with an `address`); whether a collection runs or null; its
-/// `classes`, most bytes first, each with its `address`, `name` or null, `objects`, `bytes`, and of how many of them the
-/// size is `unknown`; and of how many objects the class is `unreadable`.
+/// `classes`, most bytes first, each with its `address`, `name` or null, `objects`, the `bytes` of their own blocks, those of
+/// lists' items (`more`), and of how many of them the size is `unknown`; and of how many objects the class is
+/// `unreadable`.
 ///
 /// The keys of an object stand in the order of their bytes. The one error is want of memory.
 pub fn heaps_value(alloc: Global, heaps: &Heaps) -> Result<Value, AllocError>

@@ -7,7 +7,7 @@ use Rattle.gc_lists.specs.Lists.Told.{AreHere, Elsewhere}
 use Rattle.gc_lists.specs.Rings.{Listing}
 use Rattle.gc_lists.specs.Walks.{most_members}
 use Rattle.py_census.specs.Censuses.{Counted, IsCensus}
-use Rattle.py_census.specs.Sizes.{class_at, size_at}
+use Rattle.py_census.specs.Sizes.{class_at, more_at, size_at}
 use Rattle.py_heap.specs.Names.{named_classes, names_reads}
 use Rattle.py_heap.specs.Objects.{objects_of}
 use Rattle.py_heap.specs.declared.heap.Generation.{Generation}
@@ -29,7 +29,8 @@ pub record IsHeap (l : Layout) (p : HeapPlaces) (m : Memory) (lists : Four) (hea
   pub oldest : heap.oldest ≡ generation_of lists.oldest
   pub permanent : heap.permanent ≡ generation_of lists.permanent
   pub counted : Counted
-  pub census : IsCensus (class_at l m) (size_at l p.sizes m) (objects_of p.lists.head_size lists) counted
+  pub census : IsCensus (class_at l m) (size_at l p.sizes m) (more_at l p.sizes m)
+      (objects_of p.lists.head_size lists) counted
   pub classes : heap.classes.items ≡ named_classes l p.classes m counted.classes
   pub unreadable : heap.unreadable ≡ counted.unreadable
 
@@ -52,7 +53,7 @@ abbrev pub objects_told : HeapTold → ℕ
 objects_told (told.NoLists head) = 0
 objects_told (told.Counted h) = h.youngest.objects + h.middle.objects + h.oldest.objects + h.permanent.objects
 
--- six reads of each object, those of names, and 21 more
+-- seven reads of each object, those of names, and 21 more
 abbrev pub heap_reads : {E : Type 0} → Result HeapTold E → ℕ
-heap_reads (Ok told) = 6 * objects_told told + 21 + names_reads
-heap_reads (Err e) = 6 * (4 * most_members) + 21 + names_reads
+heap_reads (Ok told) = 7 * objects_told told + 21 + names_reads
+heap_reads (Err e) = 7 * (4 * most_members) + 21 + names_reads

@@ -20,7 +20,7 @@ ENDS = {"torn": "is torn at", "unreadable": "can't be read at", "cut": "has more
 
 def class_of(tree: Tree) -> HeapClass:
     """A class of which there are objects."""
-    return HeapClass(tree["name"] or f"class at {tree['address']}", tree["objects"], tree["bytes"], tree["unknown"])
+    return HeapClass(tree["name"] or f"class at {tree['address']}", tree["objects"], tree["bytes"], tree["more"], tree["unknown"])
 
 
 def marks_of(tree: Tree) -> Tuple[str, ...]:
@@ -41,7 +41,8 @@ def heap_of(tree: Tree) -> Heap:
     if tree["kind"] != "heap":
         faults = {"no lists": "the collector's lists aren't where they are looked for", "no runtime": "no symbol tells where the runtime is"}
         return Heap(owner, fault=faults[tree["kind"]])
-    return Heap(owner, tuple(class_of(it) for it in tree["classes"]), tuple((name, tree["lists"][key]["objects"]) for key, name in LISTS),
+    classes = sorted(map(class_of, tree["classes"]), key=lambda it: -it.total)
+    return Heap(owner, tuple(classes), tuple((name, tree["lists"][key]["objects"]) for key, name in LISTS),
                 marks_of(tree))
 
 

@@ -19,19 +19,19 @@ def head_of(heap: Heap) -> str:
     owner = f"Heap of the interpreter at {heap.interpreter}" if heap.interpreter else "Heap"
     if heap.fault:
         return f"{owner}: {heap.fault}"
-    objects, size = sum(it.objects for it in heap.classes), sum(it.size for it in heap.classes)
-    return f"{owner}: {plural(objects, 'object')} that the collector tracks, {size:,} bytes without what they refer to"
+    objects, size = sum(it.objects for it in heap.classes), sum(it.total for it in heap.classes)
+    return f"{owner}: {plural(objects, 'object')} that the collector tracks, {size:,} bytes with lists' items, without dicts' keys and what isn't tracked"
 
 
 def row_of(one: HeapClass) -> str:
     """The line of a class."""
     more = f" ({one.unknown:,} of unknown size)" if one.unknown else ""
-    return f"    {one.objects:>12,} {one.size:>16,}  {in_line(one.name)}{more}"
+    return f"    {one.objects:>12,} {one.total:>16,}  {in_line(one.name)}{more}"
 
 
 def rest_of(left: Sequence[HeapClass]) -> str:
     """What is said of classes without a line."""
-    objects, size = sum(it.objects for it in left), sum(it.size for it in left)
+    objects, size = sum(it.objects for it in left), sum(it.total for it in left)
     return f"    {objects:>12,} {size:>16,}  {plural(len(left), 'more class')}: --all shows each"
 
 

@@ -114,7 +114,7 @@ def heap_part(heap: Heap) -> Iterator[str]:
         return
     yield f"<p>{text(counts_of(heap).strip())}</p>"
     yield from (f"<p class=\"end\">{text(in_line(it))}</p>" for it in heap.marks)
-    yield table_of(("objects", "bytes", "class"), [(f"{it.objects:,}", f"{it.size:,}", in_line(it.name)) for it in heap.classes])
+    yield table_of(("objects", "bytes", "class"), [(f"{it.objects:,}", f"{it.total:,}", in_line(it.name)) for it in heap.classes])
 
 
 def sections_of(report: Report, style: Style) -> List[Section]:

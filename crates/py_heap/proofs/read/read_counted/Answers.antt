@@ -3,7 +3,7 @@ use Rattle.std.proofs.lemmas.Result.{err_from_is_err_and}
 use Rattle.process_memory.proofs.Reading.{reading_gives, reading_none, reading_then}
 use Rattle.gc_lists.specs.Lists.{four_of}
 use Rattle.py_census.specs.Censuses.{IsCensus, counted_of}
-use Rattle.py_census.specs.Sizes.{class_at, size_at}
+use Rattle.py_census.specs.Sizes.{class_at, more_at, size_at}
 use Rattle.py_heap.specs.Heaps.{IsHeap}
 use Rattle.py_heap.specs.Names.{named_classes}
 use Rattle.py_heap.proofs.Counting.{length_objects}
@@ -53,7 +53,7 @@ returns g c =
       oldest = c.generation_of-3.ensures;
       permanent = c.generation_of-4.ensures;
       counted = counted_of census;
-      census = subst (λ xs. IsCensus (class_at l m) (size_at l p.sizes m) xs (counted_of census)) objects a;
+      census = subst (λ xs. IsCensus (class_at l m) (size_at l p.sizes m) (more_at l p.sizes m) xs (counted_of census)) objects a;
       classes = b ∙ ap (named_classes l p.classes m) c.deref-2.ensures.value;
       unreadable = refl;
     }))
