@@ -229,10 +229,10 @@ def sections_asked(words: Sequence[str]) -> Sequence[str]:
     return [it for it in options_of(words) if it in SECTIONS]
 
 
-SECTIONS = ("--signal", "--registers", "--missing", "--check-layout", "--names", "--tasks", "--exceptions", "--waits", "--native")
+SECTIONS = ("--signal", "--registers", "--missing", "--check-layout", "--names", "--tasks", "--exceptions", "--waits", "--native", "--heap")
 """The flags of all sections."""
 
-OWN_TEXTS = ("--exceptions", "--native")
+OWN_TEXTS = ("--exceptions", "--native", "--heap")
 """Those whose text isn't made again from the JSON here."""
 
 

@@ -108,6 +108,7 @@ CHECKS = (
     Check("real/real_exceptions", OF_SALVAGE),
     Check("real/real_values", OF_SALVAGE),
     Check("real/real_waits", OF_BOTH),
+    Check("real/real_heap", OF_BOTH),
     Check("real/real_example", OF_BOTH),
     Check("real/real_refusals", OF_BOTH),
     Check("real/real_pairs", OF_SALVAGE),

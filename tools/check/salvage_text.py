@@ -170,7 +170,7 @@ def check_interpreter(tree: object) -> None:
 def check_told(tree: object, limit: int, sections: Collection[str] = ()) -> None:
     """Fails where something is no JSON of this program, which shows so many frames at each end of a thread, and these
     sections."""
-    need_keys(tree, "exceptions", "interpreters", "layout_check", "missing", "more", "names", "native", "process", "registers",
+    need_keys(tree, "exceptions", "heap", "interpreters", "layout_check", "missing", "more", "names", "native", "process", "registers",
               "search_ended", "signal", "signal_info", "stacks", "tasks", *(["values_left_out"] if "values_left_out" in tree else []), "version",
               "version_by_names", "waits")
     need_number(tree.get("values_left_out", 0))

@@ -159,6 +159,8 @@ def check_sections(tree: Tree, asked: Collection[str]) -> None:
                       ("waits", "--waits"), ("native", "--native"), ("stacks", "--native")):
         if (tree[key] is not None) != (flag in asked):
             raise Failure(f"the section {key} is {tree[key]!r}, where {asked!r} are asked for")
+    if tree["heap"] is not None:
+        check_heap(tree, "--heap" in asked)
     if tree["signal_info"] is not None:
         check_signal(tree["signal_info"])
     for it in tree["registers"] or ():
@@ -234,6 +236,41 @@ def check_waits(tree: Tree) -> None:
             raise Failure(f"waits of other threads: {waits!r}")
     if shown:
         raise Failure(f"no waits of {sorted(shown)}")
+
+
+LIST_ENDS = {"whole": (), "torn": ("address",), "unreadable": ("address",), "cut": ("address",)}
+"""How a list of the collector may end."""
+
+
+def check_heap(tree: Tree, is_asked: bool) -> None:
+    """Fails where a heap isn't told of each interpreter that is shown, or of the runtime, or not each object is counted in a class once. (Of a
+    version that isn't described none is told, though one is asked for.)"""
+    owners = [it["interpreter"] for it in tree["heap"]]
+    if not is_asked or owners not in ([None], [it["address"] for it in tree["interpreters"]]):
+        raise Failure(f"heaps of {owners}")
+    for it in tree["heap"]:
+        if it["kind"] != "heap":
+            check_one_of(it, {"no lists": ("interpreter",), "no runtime": ("interpreter",)})
+            continue
+        check_keys(it, "classes", "collecting", "interpreter", "kind", "lists", "unreadable")
+        check_keys(it["lists"], "middle", "oldest", "permanent", "youngest")
+        for one in it["lists"].values():
+            check_keys(one, "end", "objects")
+            check_one_of(one["end"], LIST_ENDS)
+        check_classes(it)
+
+
+def check_classes(heap: Tree) -> None:
+    """Fails where the classes of a heap stand twice or out of order, or have other objects in all than the lists."""
+    rows = heap["classes"]
+    for it in rows:
+        check_keys(it, "address", "bytes", "more", "name", "objects", "unknown")
+    keys = [(-it["bytes"], int(it["address"], 16)) for it in rows]
+    if keys != sorted(set(keys)) or len({it["address"] for it in rows}) != len(rows):
+        raise Failure("classes of a heap aren't in order, or stand twice")
+    objects = sum(it["objects"] for it in rows) + heap["unreadable"]
+    if objects != sum(it["objects"] for it in heap["lists"].values()):
+        raise Failure(f"{objects} objects are counted, and others are in the lists")
 
 
 def wait_lines(waits: Sequence[Tree]) -> List[str]:

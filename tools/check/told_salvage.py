@@ -275,7 +275,7 @@ def left(random: Random, command: str) -> Told:
         return Told(WORDS["pysalvage"], files, 1, f"no interpreter found: {4 + words} addresses looked at, 0 members walked")
     tree = {"interpreters": list(whole.interpreters), "more": whole.more, "process": None,
             **NONE_TOLD, "layout_check": None, "missing": None, "registers": None, "search_ended": None,
-            "signal": 11 if notes else None, "signal_info": None, "stacks": None, "version": "3.9.0", "version_by_names": False, "waits": None}
+            "signal": 11 if notes else None, "signal_info": None, "stacks": None, "version": "3.9.0", "heap": None, "version_by_names": False, "waits": None}
     return told_of(random, files, tree, () if limit == 100 else ("-n", str(limit)))
 
 
@@ -289,7 +289,7 @@ def searched(random: Random, command: str) -> Told:
         return Told(WORDS["pysalvage"], files, 1, line)
     tree = {"interpreters": [with_marks({**one, "searched": True}, None, None)], "more": False, "process": None,
             **NONE_TOLD, "layout_check": None, "missing": None, "registers": None, "search_ended": None,
-            "signal": None, "signal_info": None, "stacks": None, "version": "3.9.0", "version_by_names": False, "waits": None}
+            "signal": None, "signal_info": None, "stacks": None, "version": "3.9.0", "heap": None, "version_by_names": False, "waits": None}
     return told_of(random, files, tree, ())
 
 

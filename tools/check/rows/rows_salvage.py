@@ -26,7 +26,7 @@ STRIPPED = image_file([Segment(0x400000, b"", 5, 0x1000)], (BSS, 16), [], [Secti
 HELP = """\
 pysalvage CORE --layouts FILE [--records FILE] [-n N] [-l].. [-j] [--signal] [--registers]
           [--missing] [--check-layout] [--names] [--tasks] [--exceptions] [--waits]
-          [--native [--strict]] [PATH=FILE]..
+          [--native [--strict]] [--heap] [PATH=FILE]..
 
 What is left of the Python stacks in the core of a broken process, or in one that was cut: each chain of threads and
 frames as far as it goes. Where no mark stands a chain is whole.
@@ -47,6 +47,7 @@ CORE            the core's file
 --waits         what each thread waits for: a lock and its owner, the interpreter's lock, or a queue
 --native        the native stack of each thread
 --strict        native stacks without guesses
+--heap          the objects of each class that the collector tracks, and their bytes
 PATH=FILE       FILE is read in place of the file that the process had mapped from PATH
 --help          this text
 --version       the version of the program
@@ -443,7 +444,7 @@ def trees() -> Iterator[Row]:
                    "threads_end": {"kind": "whole"}}
     tree = {"exceptions": None, "interpreters": [interpreter], "layout_check": None, "missing": None, "more": False, "names": None,
             "native": None, "process": {"arguments": "p\n", "pid": 4}, "registers": None, "search_ended": None, "signal": 11, "signal_info": None, "stacks": None,
-            "tasks": None, "version": "3.9.0", "version_by_names": False, "waits": None}
+            "tasks": None, "version": "3.9.0", "heap": None, "version_by_names": False, "waits": None}
     notes = [status_record(11, 4, 0x7F00), process_record(4, b"p", b"p\n")]
     text = lambda it: json.dumps(it, indent=2, ensure_ascii=False) + "\n"
     yield salvage("JSON", f"{GOOD} -j", named(heap(), notes=notes), text(tree))
@@ -537,7 +538,7 @@ def broken_tree(back: int, blocks: Sequence[int]) -> Dict[str, object]:
                    "threads_end": {"kind": "whole"}}
     return {"exceptions": None, "interpreters": [interpreter], "layout_check": None, **missed_object(blocks), "more": False, "names": None,
             "native": None, "process": None, "registers": None, "search_ended": None, "signal": None, "signal_info": None, "stacks": None, "tasks": None,
-            "version": "3.9.0", "version_by_names": False, "waits": None}
+            "version": "3.9.0", "heap": None, "version_by_names": False, "waits": None}
 
 
 def missed() -> Iterator[Row]:

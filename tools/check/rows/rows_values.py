@@ -181,5 +181,5 @@ def trees() -> Iterator[Row]:
                    "threads_end": {"kind": "whole"}}
     tree = {"exceptions": None, "interpreters": [interpreter], "layout_check": None, "missing": None, "more": False, "names": None,
             "native": None, "process": None, "registers": None, "search_ended": None, "signal": None, "signal_info": None, "stacks": None, "tasks": None,
-            "values_left_out": 0, "version": "3.9.0", "version_by_names": False, "waits": None}
+            "values_left_out": 0, "version": "3.9.0", "heap": None, "version_by_names": False, "waits": None}
     yield salvage("value: JSON", f"{GOOD} -lj", named(objects), json.dumps(tree, indent=2) + "\n")

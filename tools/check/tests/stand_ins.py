@@ -79,7 +79,7 @@ def salvage(
     *interpreters: Tree, signal: Optional[int] = 11, arguments: Optional[str] = "python3 a.py", more: bool = False,
     info: Optional[Tree] = None, registers: Optional[List[Tree]] = None, layout_check: Optional[Tree] = None,
     names: Optional[List[Tree]] = None,
-    native: Optional[List[Tree]] = None, tasks: Optional[List[Tree]] = None, waits: Optional[List[Tree]] = None,
+    native: Optional[List[Tree]] = None, tasks: Optional[List[Tree]] = None, waits: Optional[List[Tree]] = None, heap: Optional[List[Tree]] = None,
 ) -> Tree:
     """All of a core."""
     process = None if arguments is None else {"arguments": arguments, "pid": 4711}
@@ -87,7 +87,7 @@ def salvage(
         "interpreters": list(interpreters), "layout_check": layout_check, "missing": None, "more": more,
         "names": names, "exceptions": None, "native": native, "process": process, "registers": registers, "signal": signal, "signal_info": info,
         "stacks": None,
-        "search_ended": None, "tasks": tasks, "version": "3.11.7", "version_by_names": False, "waits": waits,
+        "search_ended": None, "tasks": tasks, "version": "3.11.7", "heap": heap, "version_by_names": False, "waits": waits,
     }
 
 

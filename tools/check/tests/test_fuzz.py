@@ -125,7 +125,7 @@ def tree(frames=(), thread=(), interpreter=(), **fields):
             "threads_end": {"kind": "whole"}, **dict(interpreter)}
     return {"interpreters": [held], "layout_check": None, "missing": None, "more": False, "names": None, "native": None,
             "process": {"arguments": 'a "b"\n', "pid": 4}, "registers": None, "search_ended": None, "signal": 11,
-            "signal_info": None, "stacks": None, "exceptions": None, "tasks": None, "version": "3.9.0", "version_by_names": False, "waits": None, **fields}
+            "signal_info": None, "stacks": None, "exceptions": None, "tasks": None, "version": "3.9.0", "heap": None, "version_by_names": False, "waits": None, **fields}
 
 
 SALVAGED = "Signal 11: core\nProcess 4: a \"b\"\\u{a}\nPython v3.9.0\n\nThread 7 (crashed)\n    f (a.py:3)\n"

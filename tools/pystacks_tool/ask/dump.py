@@ -86,7 +86,7 @@ def tree_of(report: Report, threads: List[Tree], most: Optional[int] = None) -> 
     interpreter = {"address": None, "lock": None, "searched": None, "threads": rows, "threads_end": {"kind": "whole"}}
     process = None if report.process is None else {"arguments": report.process[1], "pid": report.process[0]}
     return {
-        "interpreters": [interpreter], "layout_check": None, "missing": None, "more": None, "names": None, "native": None,
+        "heap": None, "interpreters": [interpreter], "layout_check": None, "missing": None, "more": None, "names": None, "native": None,
         "process": process, "registers": None, "search_ended": None, "signal": report.signal,
         "signal_info": None, "stacks": None, "tasks": None, "exceptions": None, "version": report.version or None, "version_by_names": None,
         "waits": None,

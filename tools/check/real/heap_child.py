@@ -1,0 +1,82 @@
+"""Objects by the thousand, of which the process says before it dies how many it has of each class, and how many bytes by `sys.getsizeof`.
+`heap_child.py frozen` dies behind `gc.freeze`, `garbage` with cycles that nothing refers to, `collecting` in a callback of the collector."""
+
+import gc
+import json
+import os
+import sys
+
+MANY = 3000
+
+
+class Slotted:
+    __slots__ = ("one", "two", "__weakref__")
+
+    def __init__(self, one):
+        self.one = one
+        self.two = []
+
+
+class Pair(tuple):
+    __slots__ = ()
+
+
+class Rows(list):
+    __slots__ = ()
+
+
+class Plain:
+    def __init__(self, number):
+        self.number = number
+        self.rows = []
+
+
+class Ring:
+    def __init__(self):
+        self.own = self
+
+
+def census(classes):
+    """How many objects the collector tracks of some classes, and how many bytes they have."""
+    found = {it: [0, 0] for it in classes}
+    for it in gc.get_objects():
+        row = found.get(type(it))
+        if row is not None:
+            row[0] += 1
+            row[1] += sys.getsizeof(it)
+    return {it.__name__: row for it, row in found.items()}
+
+
+def told(kind):
+    """What is said."""
+    rows = census((Slotted, Pair, Rows, Plain, Ring, dict, list))
+    # (its address lets a copy of the core be torn at its head)
+    return json.dumps({"kind": kind, "classes": rows, "all": len(gc.get_objects()), "middle": id(KEPT[len(KEPT) // 2])})
+
+
+def dies(phase, info):
+    if phase == "start":
+        os.abort()
+
+
+gc.disable()
+KIND = sys.argv[1]
+KEPT = [Slotted(it) for it in range(MANY)]
+PAIRS = [Pair((it, [], it)) for it in range(MANY // 2)]
+ROWS = [Rows(range(it % 50)) for it in range(MANY // 3)]
+PLAIN = [Plain(it) for it in range(MANY)]
+for _ in range(MANY // 4):
+    Ring()
+if KIND != "garbage":
+    gc.collect()
+if KIND == "frozen":
+    TEXT = told(KIND)
+    gc.freeze()
+else:
+    TEXT = told(KIND)
+sys.stdout.write(TEXT + "\n")
+sys.stdout.flush()
+if KIND == "collecting":
+    gc.callbacks.append(dies)
+    gc.collect()
+os.abort()
