@@ -48,6 +48,7 @@ CHECKS = (
     Check("messages"),
     Check("quotes"),
     Check("definitions"),
+    Check("links"),
     Check("typed"),
     Check("versions"),
     Check("tests/test_gate"),
