@@ -20,7 +20,7 @@ PLAIN = re.compile(r"```.*?```|`[^`\n]*`", re.DOTALL)
 
 def pages() -> List[Path]:
     """All pages."""
-    return [*sorted(ROOT.glob("*.md")), *sorted(ROOT.glob("docs/*.md")), *sorted(ROOT.glob("crates/*/README.md"))]
+    return [*sorted(ROOT.glob("*.md")), *sorted(ROOT.glob("docs/*.md")), *sorted(ROOT.glob("crates/*/README.md")), *sorted(ROOT.glob("tools/**/README.md"))]
 
 
 def anchors(page: Path) -> List[str]:
