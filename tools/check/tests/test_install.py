@@ -57,7 +57,7 @@ class Case(unittest.TestCase):
     def links(self, folder):
         """Sees that what the texts of a folder link to is there."""
         for page in ("README.md", "SECURITY.md"):
-            links = re.findall(r"\]\((?!https?:)([^)#]*)\)", (folder / page).read_text(encoding="utf-8"))
+            links = re.findall(r"\]\((?!https?:)([^)#]*)(?:#[^)]*)?\)", (folder / page).read_text(encoding="utf-8"))
             self.assertTrue(links and all((folder / it).is_file() for it in links), links)
 
     def ran(self, *words, **more):
