@@ -53,6 +53,7 @@ CHECKS = (
     Check("versions"),
     Check("tests/test_gate"),
     Check("tests/test_typed"),
+    Check("tests/test_glossary"),
     Check("tests/test_real_core"),
     Check("tests/test_dump_core"),
     Check("tests/test_records"),
