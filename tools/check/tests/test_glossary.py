@@ -119,7 +119,10 @@ class Pages(unittest.TestCase):
         """Each crate has a page; one that isn't there is told."""
         self.assertIn("pystacks", links.crates())
         self.assertEqual(list(links.lacking("pystacks")), [])
-        self.assertEqual(list(links.lacking("no_such_crate")), ["crates/no_such_crate has no README.md"])
+        begun = links.begun("native_pairs")
+        self.assertTrue(begun.startswith("# native_pairs\n\n") and begun.endswith("## What is proved, and what is not\n"))
+        self.assertEqual([it for it in links.modules("native_pairs") if f"- `{it}`: " not in begun], [])
+        self.assertEqual(list(links.lacking("no_such_crate")), ["crates/no_such_crate has no README.md: --begin no_such_crate begins one"])
 
 
 if __name__ == "__main__":
