@@ -122,6 +122,11 @@ def ended(text: str) -> str:
     return text if text.endswith((".", ":", ";")) else f"{text}."
 
 
+def titled(text: str) -> str:
+    """A text as the title of what follows it."""
+    return f"**{text[:1].upper()}{text[1:]}**"
+
+
 def said(lines: List[str]) -> str:
     """A comment as one line of the page, where no sign in it is read as a mark."""
     text = " ".join(re.sub(r"^ *--( ----)? ?", "", it).strip() for it in lines)
@@ -183,7 +188,7 @@ def parts_of(module: str, text: str) -> Tuple[str, List[Part]]:
         elif comment and line.startswith(("use ", "pub ")) and not parts:
             head = said(comment)
         elif comment and not line.strip():
-            parts.append(ended(said(comment)))
+            parts.append(titled(said(comment)) if re.match(r" *-- ----", comment[0]) else ended(said(comment)))
         comment = []
         if parts and isinstance(parts[-1], Entry):
             parts[-1].words.update(WORD.findall(line.partition("--")[0]))

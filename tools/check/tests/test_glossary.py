@@ -71,7 +71,7 @@ class Specifications(unittest.TestCase):
         self.assertEqual(told[2], ("Kept", "record", " (bytes : List ℕ) : Type 0", "what is \\<kept>"))
         self.assertEqual(told[3], ("count", "unfoldable", " : Tree → ℕ", "how many there are"))
         self.assertEqual(entries[2].fields, ["  - `name`: the name."])
-        self.assertEqual([it for it in parts if isinstance(it, str)], ["records."])
+        self.assertEqual([it for it in parts if isinstance(it, str)], ["**Records**"])
         self.assertIn("first", entries[1].words)
 
     def test_lines(self):
