@@ -79,7 +79,7 @@ class Installed(Case):
         self.assertTrue({"MESSAGES.md", "CORES.md", "COMMANDS.md", "SALVAGE.md"} <= {it.name for it in (to / "docs").iterdir()})
         page = (to / "docs/TOOL.md").read_text(encoding="utf-8")
         self.assertTrue(all((to / "docs" / it).is_file() for it in re.findall(r"\((pictures/[^)]*)\)", page)))
-        self.assertFalse({"PROVED.md", "DECISIONS.md"} & {it.name for it in (to / "docs").iterdir()})
+        self.assertFalse({"PROVED.md", "CONTRIBUTING.md"} & {it.name for it in (to / "docs").iterdir()})
         self.assertTrue(all(os.access(it, os.X_OK) for it in (to / "bin").iterdir()))
         self.assertTrue({"README.md", "LICENSE", "NOTICE", "SECURITY.md", "CHANGELOG.md"} <= {it.name for it in to.iterdir()})
         self.links(to)
