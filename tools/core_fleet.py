@@ -5,7 +5,7 @@
 
 FILE has a core's path a line, as the workers see it. Each worker runs `tools/dump_core.py --keys` over some of them, by its own
 copy of this folder, so that cores stay where they are and lines alone are sent. `tools/dump_core.py --group --from` groups what
-this prints. With --local N workers are started on this machine. docs/FLEET.md has the whole way.
+this prints. With --local N workers are started on this machine. docs/CORES.md has the whole way.
 """
 
 import argparse

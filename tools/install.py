@@ -30,7 +30,7 @@ from pystacks_tool.places import MACHINES, PROGRAM, SALVAGE, commit, program_at,
 ROOT = Path(pages.ROOT)
 LAYOUTS = Path(places.LAYOUTS)
 
-PAGES = ("CORES", "DIFFERENCES", "DUMP", "FLEET", "HANDLER", "HOSTILE", "LAYOUTS", "MERGE", "MESSAGES", "REACH", "SALVAGE", "SAMPLE", "SLIM", "SPEED", "TOOL",
+PAGES = ("COMMANDS", "CORES", "DIFFERENCES", "DUMP", "FLEET", "HANDLER", "HOSTILE", "LAYOUTS", "MEASURES", "MERGE", "MESSAGES", "REACH", "SALVAGE", "SAMPLE", "SLIM", "SPEED", "TOOL",
          "TRIAGE", "WALK")
 """The pages of docs for users."""
 

@@ -142,7 +142,7 @@ def ran(program: str, words: Sequence[str], folder: str) -> Answer:
 
 
 def text_of_threads(threads: List[dict]) -> str:
-    """The text of the threads of a JSON answer, as docs/DUMP.md has it: an empty line, and then one after another."""
+    """The text of the threads of a JSON answer, as docs/COMMANDS.md has it: an empty line, and then one after another."""
     lines = [""]
     for it in reversed(threads):
         number, name = it["os_thread_id"], it["thread_name"]

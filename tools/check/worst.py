@@ -4,7 +4,7 @@
     tools/check/worst.py --program crates/pystacks/out/pystacks [--salvage crates/pysalvage/out/pysalvage]
                          [--seconds 60] [--memory 2000] [--only WORD] [--judged]
 
-The cores are laid out by the example of docs/LAYOUTS.md. docs/HOSTILE.md has the table. With --judged only those are run whose
+The cores are laid out by the example of docs/LAYOUTS.md. docs/MEASURES.md has the table. With --judged only those are run whose
 bytes are shared by many entries of the file, each under a limit of 64 MB or 16 times the files' size, whichever is more, and
 within 2 s of the processor, or within a bound of its own: the status is 0 exactly where each ends within these, with the status
 and the line that it has to.
@@ -247,7 +247,7 @@ def judged() -> Iterator[Case]:
 
 
 def apart() -> Iterator[Case]:
-    """Those that have a bound of their own, which is told in docs/HOSTILE.md."""
+    """Those that have a bound of their own, which is told in docs/MEASURES.md."""
     yield Case("4096 threads of the same 4096 frames, whose ends are shown", SALVAGE,
                lambda: with_bss(2, interpreter("a.py", "f", 4096, 4096)), "0",
                memory=100, seconds=TEN)

@@ -5,7 +5,7 @@
 
 The groups by `crash` have to be the bugs, by each version; the lines that --keys writes have to give the same groups, byte by
 byte. With --all there are some 200 cores, else each bug twice by one Python. With --fleet the same cores are looked at by GNU
-parallel and by two workers of dask.distributed too, where these are there: docs/FLEET.md has the commands. The status is 0
+parallel and by two workers of dask.distributed too, where these are there: docs/CORES.md has the commands. The status is 0
 exactly where nothing that was tried failed.
 """
 

@@ -57,7 +57,7 @@ class Case(unittest.TestCase):
     def links(self, folder):
         """Sees that what the texts of a folder link to is there."""
         for page in ("README.md", "SECURITY.md"):
-            links = re.findall(r"\]\((?!https?:)([^)#]*)\)", (folder / page).read_text(encoding="utf-8"))
+            links = re.findall(r"\]\((?!https?:)([^)#]*)(?:#[^)]*)?\)", (folder / page).read_text(encoding="utf-8"))
             self.assertTrue(links and all((folder / it).is_file() for it in links), links)
 
     def ran(self, *words, **more):
@@ -76,10 +76,10 @@ class Installed(Case):
         self.assertEqual(sorted(it.name for it in (to / "bin").iterdir()), ["pysalvage", "pystacks", "pystacks-core", "pystacks-core-handle", "pystacks-layout", "pystacks-native", "pystacks-slim"])
         self.assertEqual(sorted(it.name for it in (to / "layouts").iterdir()), ["cpython-aarch64.toml", "cpython-x86_64.toml", "records-aarch64.toml", "records-x86_64.toml"])
         self.assertTrue({"dump_core.py", "slim_core.py"} <= {it.name for it in (to / "tools").iterdir()})
-        self.assertTrue({"MESSAGES.md", "CORES.md", "DUMP.md", "SLIM.md"} <= {it.name for it in (to / "docs").iterdir()})
+        self.assertTrue({"MESSAGES.md", "CORES.md", "COMMANDS.md", "SALVAGE.md"} <= {it.name for it in (to / "docs").iterdir()})
         page = (to / "docs/TOOL.md").read_text(encoding="utf-8")
         self.assertTrue(all((to / "docs" / it).is_file() for it in re.findall(r"\((pictures/[^)]*)\)", page)))
-        self.assertFalse({"PROVED.md", "DECISIONS.md"} & {it.name for it in (to / "docs").iterdir()})
+        self.assertFalse({"PROVED.md", "CONTRIBUTING.md"} & {it.name for it in (to / "docs").iterdir()})
         self.assertTrue(all(os.access(it, os.X_OK) for it in (to / "bin").iterdir()))
         self.assertTrue({"README.md", "LICENSE", "NOTICE", "SECURITY.md", "CHANGELOG.md"} <= {it.name for it in to.iterdir()})
         self.links(to)

@@ -13,7 +13,7 @@ NEXT = {
     "no named executable map": "--maps names a copy of the process's /proc/PID/maps",
     "bad image": "--root names the folder below which the files are that were mapped",
     "version unreadable": "take the next core with all private mappings: echo 0x3f > /proc/PID/coredump_filter",
-    "no Python version found": "see that it is a Python process; docs/WALK.md is for programs that embed Python",
+    "no Python version found": "see that it is a Python process; docs/COMMANDS.md has walk, for programs that embed Python",
     "cannot read": "see by `ls -l` who may read it",
     "file too long": "cores of at most 64 GiB are read, without their zero pages",
     "out of memory": "read it where there is more memory, or see `ulimit -v`",

@@ -40,7 +40,7 @@ def main(given: List[str]) -> int:
     words, path = option(given, "--settings", PATH)
     words, base = option(words, "--root", "/")
     if words in (["--help"], ["-h"]):
-        print(f"usage: {USAGE}\n\nThe kernel starts this for each core; docs/HANDLER.md has its settings.")
+        print(f"usage: {USAGE}\n\nThe kernel starts this for each core; docs/CORES.md has its settings.")
         return 0
     if words not in (["--install"], ["--remove"], ["--tidy"]):
         return run(words, path)

@@ -337,7 +337,7 @@ def run(words: Sequence[str], path: str) -> int:
     """The command by the kernel's words, and the file of settings. Returns the status."""
     open_streams()
     if os.geteuid() != 0:
-        say("the kernel starts this as root", "docs/HANDLER.md says how it is set up", WHO)
+        say("the kernel starts this as root", "docs/CORES.md says how it is set up", WHO)
         return BAD_WORDS
     os.umask(0o077)
     for number in ENDS:

@@ -80,7 +80,7 @@ def value_of(key: str, word: str) -> object:
         return WORDS[word]
     if kind is int and word.isascii() and word.isdecimal() and 0 < int(word) < 1 << 31:
         return int(word)
-    raise Fault(f"settings: {key} = {shown(os.fsencode(word))}", BAD_WORDS, "docs/HANDLER.md has each key, and what it takes")
+    raise Fault(f"settings: {key} = {shown(os.fsencode(word))}", BAD_WORDS, "docs/CORES.md has each key, and what it takes")
 
 
 def settings_in(text: str) -> Settings:
@@ -93,7 +93,7 @@ def settings_in(text: str) -> Settings:
         key, _, word = (it.strip() for it in line.partition("="))
         found[key] = value_of(key, word)
     if not 0 < int(str(found.get("share", 1))) <= 100:
-        raise Fault(f"settings: share = {found['share']}", BAD_WORDS, "docs/HANDLER.md has each key, and what it takes")
+        raise Fault(f"settings: share = {found['share']}", BAD_WORDS, "docs/CORES.md has each key, and what it takes")
     return Settings(**found)  # type: ignore[arg-type]
 
 

@@ -138,7 +138,7 @@ def install(root: str, door: Path = DOOR) -> int:
     if now["core_pattern"] != own:
         write(base / BEFORE, json.dumps(now) + "\n")
     if not (base / SETTINGS).exists():
-        write(base / SETTINGS, "# docs/HANDLER.md has each key\n")
+        write(base / SETTINGS, "# docs/CORES.md has each key\n")
     for name, text in OWN.items():
         write(base / name, text.format(pattern=own, at_once=AT_ONCE, door=door))
     set_kernel(base, {"core_pipe_limit": str(AT_ONCE), "core_pattern": own})
