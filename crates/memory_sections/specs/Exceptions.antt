@@ -28,7 +28,7 @@ ExceptionsBy l None m ts told = told ≡ NotDescribed
 ExceptionsBy l (Some d) m ts NotDescribed = ⊥
 ExceptionsBy l (Some d) m ts (Read its) = EachTold (IsThreadTold l d m) ts its.items
 
--- the last exception that no code handled, of the interpreter at an address, or that it is not described where it stands
+-- the last exception that no code handled, of the interpreter at an address, or that it isn't described where it is
 abbrev pub LastBy : Layout → Option Described → Memory → ℕ → Option LastException → Type 0
 LastBy l None m a told = told ≡ None
 LastBy l (Some d) m a None = ⊥

@@ -133,8 +133,8 @@ pub record SaysTasks (s : Salvage) (told : Told) (old new : SinkSeen) : Type 0 w
       has.left.salvaged.interpreters.items tasks.items
 
 -- The exceptions of the threads that are shown: what each raises and handles, and all that this leads to, each once
--- (`IsTold` of py_exceptions), and the last one of each interpreter that no code handled (`IsLast`), by the records that the
--- tables have for the version, or that these don't describe it.
+-- (`IsTold` of py_exceptions), and the last one of each interpreter that no code handled (`IsLast`), by the records that
+-- the tables have for the version, or that these don't describe it.
 pub record SaysExceptions (s : Salvage) (told : Told) (old new : SinkSeen) : Type 0 where
   pub has : HasSalvaged s told old new
   pub exceptions : Vec InterpreterExceptions Global
