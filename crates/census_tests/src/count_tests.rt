@@ -21,6 +21,32 @@ const LISTS: [u64; 18] = [
 /// A list of one item at 0x4000, which has room for four.
 const LIST: [u64; 5] = [1, 0x6000, 1, 0, 4];
 
+/// The same of a class of dicts.
+const DICTS: [u64; 18] = [
+    48,
+    0,
+    0,
+    0,
+    0,
+    0,
+    0,
+    0,
+    0,
+    0,
+    0,
+    0,
+    0,
+    0,
+    0,
+    0,
+    0,
+    0x2000_4000,
+];
+
+/// A dict at 0x7000, and its keys behind it, which no other has: eight slots, an index of eight bytes, and entries
+/// without a hash.
+const DICT: [u64; 8] = [1, 0x8000, 1, 0, 0x7030, 0, 1, 0x1_0303];
+
 /// From 0x3000 on: tuples of two items and of three, an object of the other class, and one of a class that is not in
 /// memory; each of 32 bytes.
 const OBJECTS: [u64; 16] = [
@@ -42,6 +68,8 @@ fn memory(alloc: Global) -> Result<Part, AllocError> {
     pieces.push(piece(alloc, 0x3000, &OBJECTS)?)?;
     pieces.push(piece(alloc, 0x4000, &LIST)?)?;
     pieces.push(piece(alloc, 0x6020, &LISTS)?)?;
+    pieces.push(piece(alloc, 0x7000, &DICT)?)?;
+    pieces.push(piece(alloc, 0x8020, &DICTS)?)?;
     Ok(Part::of(alloc, pieces))
 }
 
@@ -107,6 +135,17 @@ fn a_list_has_a_block_of_items(rt: HostRuntime) -> Result<(), Fail> {
     };
     assert!(rt; census.classes.len() == 1);
     assert!(rt; census.classes[0].bytes == 56 && census.classes[0].more == 32);
+    Ok(())
+}
+
+#[test]
+fn a_dict_has_a_block_of_keys(rt: HostRuntime) -> Result<(), Fail> {
+    let Some(census) = counted(rt.alloc(), &[0x7000])? else {
+        assert!(rt; false);
+        return Ok(());
+    };
+    assert!(rt; census.classes.len() == 1);
+    assert!(rt; census.classes[0].bytes == 64 && census.classes[0].more == 120);
     Ok(())
 }
 

@@ -26,7 +26,8 @@ use Rattle.py_census.specs.declared.sizes.ClassSize.{ClassSize}
 use Rattle.py_census.specs.declared.tallies.Tally.{Tally}
 use Rattle.py_census.specs.Censuses.{Counted, IsCensus, IsCounted, Precedes, capped, counted_by, counted_class}
 use Rattle.py_census.specs.Censuses.{counted_of, is_class, own}
-use Rattle.py_census.specs.Sizes.{class_at, class_size_at, more_at, size_at}
+use Rattle.py_census.specs.Blocks.{more_at}
+use Rattle.py_census.specs.Sizes.{class_at, class_size_at, size_at}
 use Rattle.py_census.specs.Tallies.{AreTallied, tally_by, tally_of}
 use Rattle.py_census.proofs.Members.{from_mapped, mapped, passes, same_list, some_passes}
 use Rattle.py_census.proofs.Orders.{precedes_once}

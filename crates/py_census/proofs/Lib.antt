@@ -2,3 +2,4 @@ pub mod Tallying
 pub mod Members
 pub mod Orders
 pub mod Laws
+pub mod Said

@@ -18,7 +18,8 @@ use Rattle.py_census.specs.declared.places.SizePlaces.{SizePlaces}
 use Rattle.py_census.specs.declared.sizes.ClassSize.{ClassSize}
 use Rattle.py_census.specs.declared.tallies.Tally.{Tally}
 use Rattle.py_census.specs.Censuses.{capped, is_class, own, sizes, unknown}
-use Rattle.py_census.specs.Sizes.{class_at, class_size_at, more_at, size_at}
+use Rattle.py_census.specs.Blocks.{more_at}
+use Rattle.py_census.specs.Sizes.{class_at, class_size_at, size_at}
 use Rattle.py_census.specs.Tallies.{AreTallied, IsMet, tally_after, tally_by, tally_of, tally_or_new, tally_with}
 
 same : (x y : ℕ) → nat_eq x y ≡ true → y ≡ x

@@ -98,26 +98,3 @@ size_by l p m (Some class) object = size_with p class (items_at l p m class obje
 -- how many bytes the own block of an object of a class has, where that is known
 abbrev pub size_at : Layout → SizePlaces → Memory → (class object : ℕ) → Option ℕ
 size_at l p m class object = size_by l p m (class_size_at l p m class) object
-
--- ---- blocks beside an object's own
-
--- `Py_TPFLAGS_LIST_SUBCLASS`
-abbrev pub is_list : (flags : ℕ) → Bool
-is_list flags = bit_is_set flags 25
-
--- items of a list, each an address
-abbrev pub room_of : Option ℕ → Option ℕ
-room_of None = None
-room_of (Some items) = fits (items * 8)
-
--- the block of a list's items, as many as it has room for (`list___sizeof___impl` of Objects/listobject.c)
-abbrev pub room_at : SizePlaces → Memory → (flags object : ℕ) → Option ℕ
-room_at p m flags object = if is_list flags then room_of (known (word_at m (object + p.allocated))) else Some 0
-
-abbrev pub more_by : SizePlaces → Memory → Option ClassSize → (object : ℕ) → Option ℕ
-more_by p m None object = None
-more_by p m (Some class) object = room_at p m class.flags object
-
--- how many bytes an object of a class has in blocks of their own, where that is known
-abbrev pub more_at : Layout → SizePlaces → Memory → (class object : ℕ) → Option ℕ
-more_at l p m class object = more_by p m (class_size_at l p m class) object

@@ -10,7 +10,8 @@ use Rattle.py_census.specs.declared.places.SizePlaces.{SizePlaces}
 use Rattle.py_census.specs.declared.sizes.ClassSize.{ClassSize}
 use Rattle.py_census.specs.declared.tallies.Tally.{Tally}
 use Rattle.py_census.specs.Censuses.{capped, counted_by, own, unknown}
-use Rattle.py_census.specs.Sizes.{class_at, class_size_at, more_at, more_by, size_at, size_by}
+use Rattle.py_census.specs.Blocks.{more_at, more_by}
+use Rattle.py_census.specs.Sizes.{class_at, class_size_at, size_at, size_by}
 
 -- what is kept of a class of which these are the objects so far
 abbrev pub tally_by : (sized : Option ClassSize) → (size more : ℕ → Option ℕ) → (class : ℕ) → List ℕ → Option Tally

@@ -4,14 +4,18 @@
 -- Include/internal/pycore_object.h, and `PyListObject` of Include/cpython/listobject.h (up to 3.8
 -- Include/listobject.h). The numbers are those of machines of 8 byte words.
 use Rattle.std.specs.Prelude.{ℕ, nat_eq, ◌||◌, if◌then◌else◌, Option, Some, None}
+use Rattle.py_census.specs.declared.places.KeysForm.{KeysForm}
+use Rattle.py_census.specs.declared.places.KeysForm.TheVariants.{Slots, Powers}
 use Rattle.py_census.specs.declared.places.SizePlaces.{SizePlaces}
 use Rattle.py_census.specs.declared.places.WordsBefore.{WordsBefore}
 use Rattle.py_census.specs.declared.places.WordsBefore.TheVariants.{Never, Dict, DictOrReferences}
 
-abbrev pub places_with : (head_size : ℕ) → WordsBefore → SizePlaces
-places_with head_size words_before = record {
+abbrev pub places_with : (head_size : ℕ) → WordsBefore → KeysForm → SizePlaces
+places_with head_size words_before keys_form = record {
   count = 16;
   allocated = 32;
+  keys = 32;
+  keys_form = keys_form;
   basic_size = 32;
   item_size = 40;
   head_size = head_size;
@@ -20,10 +24,10 @@ places_with head_size words_before = record {
 
 abbrev pub places_of_3 : (minor : ℕ) → Option SizePlaces
 places_of_3 minor =
-    if nat_eq minor 7 then Some (places_with 32 Never)
-    else (if nat_eq minor 8 || nat_eq minor 9 || nat_eq minor 10 then Some (places_with 16 Never)
-    else (if nat_eq minor 11 then Some (places_with 16 Dict)
-    else (if nat_eq minor 12 || nat_eq minor 13 then Some (places_with 16 DictOrReferences)
+    if nat_eq minor 7 then Some (places_with 32 Never Slots)
+    else (if nat_eq minor 8 || nat_eq minor 9 || nat_eq minor 10 then Some (places_with 16 Never Slots)
+    else (if nat_eq minor 11 then Some (places_with 16 Dict Powers)
+    else (if nat_eq minor 12 || nat_eq minor 13 then Some (places_with 16 DictOrReferences Powers)
     else None)))
 
 -- where the sizes of objects of a version stand

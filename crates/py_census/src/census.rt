@@ -4,7 +4,8 @@ ghost use Rattle.std.specs.BTreeMap.{IsOrdered, values};
 ghost use Rattle.std.specs.Ordering.{nat_cmp};
 ghost use Rattle.process_memory.specs.Seen.{Reading};
 ghost use Rattle.py_census.specs.Censuses.{Counted, IsCensus, Precedes, counted_of};
-ghost use Rattle.py_census.specs.Sizes.{class_at, more_at, size_at};
+ghost use Rattle.py_census.specs.Blocks.{more_at};
+ghost use Rattle.py_census.specs.Sizes.{class_at, size_at};
 
 use crate::SizePlaces;
 use crate::tallies::{Tally, meet_objects};
@@ -22,8 +23,8 @@ pub struct CountedClass {
     pub objects: u64,
     /// How many bytes their own blocks have in all, of those whose size is known.
     pub bytes: u64,
-    /// How many bytes there are beside these in blocks of their own, as far as they are known: those of the items that
-    /// lists have room for.
+    /// How many bytes they have beside these in blocks of their own, as far as that is known: of lists the items that
+    /// they have room for, of dicts the keys that no other object has.
     pub more: u64,
     /// Of how many of them the size is not known: what their class says of it, or their count of items, is not in
     /// memory, or it is 2^64 bytes or more.
@@ -64,7 +65,7 @@ fn put_in_order(classes: &mut Vec<CountedClass>) -> Result<(), AllocError>
     classes.sort_by_key(|class| u64::MAX - class.bytes)
 }
 
-/// What is counted of some objects. At most 6 reads of each.
+/// What is counted of some objects. At most 8 reads of each.
 fn counted<P: ProcessMemory>(
     alloc: Global,
     process: &mut P,
@@ -72,7 +73,7 @@ fn counted<P: ProcessMemory>(
     places: &SizePlaces,
     objects: &[u64],
 ) -> Result<Census, AllocError>
-    ensures { Reading (6 * length objects.now) (P.seen process.old) (P.seen process.new)
+    ensures { Reading (8 * length objects.now) (P.seen process.old) (P.seen process.new)
         (λ m. IfOk result (λ census. IsCensus (class_at layout.now m) (size_at layout.now places.now m)
         (more_at layout.now places.now m) objects.now (counted_of census))) }
 {
@@ -91,7 +92,7 @@ fn counted<P: ProcessMemory>(
 /// most bytes first, then by address. An address that stands twice counts twice.
 ///
 /// There is one such answer alone. What is not in memory is told as not known. The one error is want of memory. At most
-/// 6 reads of each object.
+/// 8 reads of each object.
 pub fn count_objects<P: ProcessMemory>(
     alloc: Global,
     process: &mut P,
@@ -99,10 +100,10 @@ pub fn count_objects<P: ProcessMemory>(
     places: &SizePlaces,
     objects: &[u64],
 ) -> Result<Census, AllocError>
-    ensures right { Reading (6 * length objects.now) (P.seen process.old) (P.seen process.new)
+    ensures right { Reading (8 * length objects.now) (P.seen process.old) (P.seen process.new)
         (λ m. IfOk result (λ census. IsCensus (class_at layout.now m) (size_at layout.now places.now m)
         (more_at layout.now places.now m) objects.now (counted_of census))) }
-    ensures only { Reading (6 * length objects.now) (P.seen process.old) (P.seen process.new)
+    ensures only { Reading (8 * length objects.now) (P.seen process.old) (P.seen process.new)
         (λ m. (other : Counted) → IsCensus (class_at layout.now m) (size_at layout.now places.now m)
         (more_at layout.now places.now m) objects.now other
         → IfOk result (λ census. counted_of census ≡ other)) }

@@ -1,11 +1,11 @@
 //! A census of objects: of each class how many there are, and how many bytes their own blocks have.
 //!
-//! Beside it the items of lists are counted, for which a list has a block of its own (`allocated`, at 32, in each of
-//! these versions).
+//! Beside it two kinds of blocks are counted: that of a list's items (`allocated`, at 32), and that of a dict's keys
+//! (`ma_keys`, at 32) where no other object has the same: up to 3.10 a head of 40 bytes, from 3.11 on one of 32.
 //!
 //! An object's own block has the bytes that its class states for each object, those of its items where it has a count
 //! of items, and what stands before the object: the head of the collector and the words of a managed dict. What other
-//! blocks it has, such as a dict's keys, is not counted.
+//! blocks it has, such as a set's table, is not counted.
 //!
 //! Where sizes stand, in bytes from the start of an object or of a class on, as `size_places` has them: the count of
 //! items at 16 (`ob_size`; from 3.12 on `lv_tag` of an integer), the bytes of each object of a class at 32
@@ -19,6 +19,7 @@
 //! | 3.12, 3.13 | 16 | with a managed dict or managed weak references (bits 4 and 3) | internal/pycore_object.h |
 #![tactic(auto)]
 
+mod blocks;
 mod census;
 mod places;
 mod sizes;
@@ -26,5 +27,5 @@ mod tallies;
 mod versions;
 
 pub use census::{Census, CountedClass, count_objects};
-pub use places::{SizePlaces, WordsBefore};
+pub use places::{KeysForm, SizePlaces, WordsBefore};
 pub use versions::size_places;

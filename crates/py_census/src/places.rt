@@ -11,6 +11,16 @@ pub enum WordsBefore {
     DictOrReferences,
 }
 
+/// How the keys of a dict say how many bytes their block has.
+#[derive(Debug, Clone, Copy, PartialEq, Eq)]
+pub enum KeysForm {
+    /// They have how many slots there are, behind 8 bytes.
+    Slots,
+    /// They have, behind 8 bytes, a byte each for how many slots there are and for how many bytes the index has, as
+    /// powers of 2, and for the kind of entry.
+    Powers,
+}
+
 /// Where the sizes of objects stand, in bytes from the start of an object or of a class on, and what stands before
 /// objects.
 #[derive(Debug, Clone, Copy, PartialEq, Eq)]
@@ -19,6 +29,10 @@ pub struct SizePlaces {
     pub count: u64,
     /// In a list: how many items it has room for.
     pub allocated: u64,
+    /// In a dict: the address of its keys.
+    pub keys: u64,
+    /// How these say how many bytes their block has.
+    pub keys_form: KeysForm,
     /// In a class: how many bytes an object of it has without its items.
     pub basic_size: u64,
     /// In a class: how many bytes an item has.

@@ -2,7 +2,6 @@
 ghost use Rattle.std.specs.Prelude.{◌≡◌, ◌+◌, ◌*◌, ◌≤◌, IfOk};
 ghost use Rattle.process_memory.specs.Memory.{word_at};
 ghost use Rattle.process_memory.specs.Seen.{Reading};
-ghost use Rattle.py_census.specs.Sizes.{is_list, more_by, room_at, room_of};
 ghost use Rattle.py_census.specs.Sizes.{class_at, class_size_at, class_size_by, digits, fits, has_count, has_words};
 ghost use Rattle.py_census.specs.Sizes.{head_before, is_integer, items_at, items_by, items_if, known, size_by};
 ghost use Rattle.py_census.specs.Sizes.{size_with};
@@ -24,9 +23,6 @@ const PY_TPFLAGS_HAVE_GC: u64 = 1 << 14;
 
 /// Its objects are integers: CPython's `Py_TPFLAGS_LONG_SUBCLASS`.
 const PY_TPFLAGS_LONG_SUBCLASS: u64 = 1 << 24;
-
-/// Its objects are lists: CPython's `Py_TPFLAGS_LIST_SUBCLASS`.
-const PY_TPFLAGS_LIST_SUBCLASS: u64 = 1 << 25;
 
 /// Its objects are tuples: CPython's `Py_TPFLAGS_TUPLE_SUBCLASS`.
 const PY_TPFLAGS_TUPLE_SUBCLASS: u64 = 1 << 26;
@@ -242,53 +238,5 @@ pub(crate) fn read_size<P: ProcessMemory>(
             let items = read_items(process, layout, places, class, object)?;
             Ok(size_with(places, class, items))
         }
-    }
-}
-
-/// Whether the objects of a class of these flags are lists.
-fn is_list(flags: u64) -> bool
-    ensures { result ≡ is_list flags }
-{
-    flags / PY_TPFLAGS_LIST_SUBCLASS % 2 == 1
-}
-
-/// How many bytes so many items of a list have.
-fn room_of(items: Option<u64>) -> Option<u64>
-    ensures { result ≡ room_of items }
-{
-    let items = items?;
-    items.checked_mul(8)
-}
-
-/// How many bytes the items of an object have, where it is a list. At most one read.
-fn read_room<P: ProcessMemory>(
-    process: &mut P,
-    places: &SizePlaces,
-    flags: u64,
-    object: u64,
-) -> Result<Option<u64>, AllocError>
-    ensures { Reading 1 (P.seen process.old) (P.seen process.new)
-        (λ m. IfOk result (λ room. room ≡ room_at places.now m flags object)) }
-{
-    if is_list(flags) {
-        let items = read_word(process, object, places.allocated)?;
-        return Ok(room_of(items));
-    }
-    Ok(Some(0))
-}
-
-/// How many bytes an object of a class has in blocks of their own; none where that is not known. At most one read.
-pub(crate) fn read_more<P: ProcessMemory>(
-    process: &mut P,
-    places: &SizePlaces,
-    class: Option<ClassSize>,
-    object: u64,
-) -> Result<Option<u64>, AllocError>
-    ensures { Reading 1 (P.seen process.old) (P.seen process.new)
-        (λ m. IfOk result (λ more. more ≡ more_by places.now m class object)) }
-{
-    match class {
-        None => Ok(None),
-        Some(class) => read_room(process, places, class.flags, object),
     }
 }

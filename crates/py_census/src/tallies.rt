@@ -7,8 +7,9 @@ ghost use Rattle.py_census.specs.Sizes.{class_size_at};
 ghost use Rattle.py_census.specs.Tallies.{AreTallied, IsMet, no_objects, tally_after, tally_or_new, with_object};
 
 use crate::SizePlaces;
+use crate::blocks::read_more;
 use crate::census::CountedClass;
-use crate::sizes::{ClassSize, read_class, read_class_size, read_more, read_size};
+use crate::sizes::{ClassSize, read_class, read_class_size, read_size};
 use process_memory::ProcessMemory;
 use py_fields::Layout;
 use std::alloc::AllocError;
@@ -79,7 +80,7 @@ fn tally_at<P: ProcessMemory>(
     }
 }
 
-/// Counts one more object, whose class is given. At most 5 reads.
+/// Counts one more object, whose class is given. At most 7 reads.
 fn add_object<P: ProcessMemory>(
     process: &mut P,
     layout: &Layout,
@@ -88,7 +89,7 @@ fn add_object<P: ProcessMemory>(
     its: u64,
     object: u64,
 ) -> Result<(), AllocError>
-    ensures { Reading 5 (P.seen process.old) (P.seen process.new) (λ m. OnOk result
+    ensures { Reading 7 (P.seen process.old) (P.seen process.new) (λ m. OnOk result
         ((class : ℕ) → get nat_cmp tallies.new class
         ≡ tally_after layout.now places.now m object (Some its) (get nat_cmp tallies.old) class)) }
 {
@@ -106,7 +107,7 @@ fn add_object<P: ProcessMemory>(
     Ok(())
 }
 
-/// Counts one more object; and whether its class is not known, so that it is counted with none. At most 6 reads.
+/// Counts one more object; and whether its class is not known, so that it is counted with none. At most 8 reads.
 fn meet_object<P: ProcessMemory>(
     process: &mut P,
     layout: &Layout,
@@ -114,7 +115,7 @@ fn meet_object<P: ProcessMemory>(
     tallies: &mut BTreeMap<u64, Tally>,
     object: u64,
 ) -> Result<bool, AllocError>
-    ensures { Reading 6 (P.seen process.old) (P.seen process.new) (λ m. IfOk result
+    ensures { Reading 8 (P.seen process.old) (P.seen process.new) (λ m. IfOk result
         (IsMet layout.now places.now m object tallies.old tallies.new)) }
 {
     let its = read_class(process, layout, object)?;
@@ -127,7 +128,7 @@ fn meet_object<P: ProcessMemory>(
     }
 }
 
-/// Counts some objects by their classes; and of how many of them the class is not known. At most 6 reads of each.
+/// Counts some objects by their classes; and of how many of them the class is not known. At most 8 reads of each.
 pub(crate) fn meet_objects<P: ProcessMemory>(
     process: &mut P,
     layout: &Layout,
@@ -136,7 +137,7 @@ pub(crate) fn meet_objects<P: ProcessMemory>(
     objects: &[u64],
 ) -> Result<u64, AllocError>
     requires none { (class : ℕ) → get nat_cmp tallies.old class ≡ None }
-    ensures { Reading (6 * length objects.now) (P.seen process.old) (P.seen process.new) (λ m. IfOk result
+    ensures { Reading (8 * length objects.now) (P.seen process.old) (P.seen process.new) (λ m. IfOk result
         (AreTallied layout.now places.now m objects.now tallies.new)) }
 {
     let mut unreadable: u64 = 0;

@@ -2,15 +2,17 @@
 ghost use Rattle.std.specs.Prelude.{◌≡◌};
 ghost use Rattle.py_census.specs.Versions.{places_of_3, places_with, size_places};
 
-use crate::{SizePlaces, WordsBefore};
+use crate::{KeysForm, SizePlaces, WordsBefore};
 
-/// With a head of the collector of so many bytes, and two words before some objects.
-fn places_with(head_size: u64, words_before: WordsBefore) -> SizePlaces
-    ensures { result ≡ places_with head_size words_before }
+/// With a head of the collector of so many bytes, and two words before some objects, and dicts of this form.
+fn places_with(head_size: u64, words_before: WordsBefore, keys_form: KeysForm) -> SizePlaces
+    ensures { result ≡ places_with head_size words_before keys_form }
 {
     SizePlaces {
         count: 16,
         allocated: 32,
+        keys: 32,
+        keys_form,
         basic_size: 32,
         item_size: 40,
         head_size,
@@ -23,10 +25,10 @@ fn places_of_3(minor: u32) -> Option<SizePlaces>
     ensures { result ≡ places_of_3 minor }
 {
     match minor {
-        7 => Some(places_with(32, WordsBefore::Never)),
-        8 | 9 | 10 => Some(places_with(16, WordsBefore::Never)),
-        11 => Some(places_with(16, WordsBefore::Dict)),
-        12 | 13 => Some(places_with(16, WordsBefore::DictOrReferences)),
+        7 => Some(places_with(32, WordsBefore::Never, KeysForm::Slots)),
+        8 | 9 | 10 => Some(places_with(16, WordsBefore::Never, KeysForm::Slots)),
+        11 => Some(places_with(16, WordsBefore::Dict, KeysForm::Powers)),
+        12 | 13 => Some(places_with(16, WordsBefore::DictOrReferences, KeysForm::Powers)),
         _ => None,
     }
 }

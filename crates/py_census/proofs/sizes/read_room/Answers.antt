@@ -1,6 +1,0 @@
-use Rattle.std.proofs.Common.{◌∙◌, sym, refl}
-use Rattle.process_memory.proofs.Reading.{reading_none}
-use Rattle.py_census.proofs.sizes.read_room.Goals as goal
-
-pub returns : goal.returns
-returns g c = reading_none _ _ _ (λ m. rw (sym c.is_list.ensures ∙ c.if-is_list.false) refl)

@@ -1,0 +1,85 @@
+-- How many bytes an object has in blocks of their own: `list___sizeof___impl` of Objects/listobject.c, and
+-- `_PyDict_KeysSize` and `USABLE_FRACTION` of Objects/dictobject.c, by which a dict's keys count where their number of
+-- owners is 1 (`_PyDict_SizeOf`). Other blocks are not counted, by this project's rule.
+use Rattle.std.specs.Prelude.{ℕ, ◌+◌, ◌*◌, ◌/◌, ◌%◌, ◌^◌, nat_eq, nat_lt, ◌&&◌, Bool, if◌then◌else◌, Option, Some, None}
+use Rattle.process_memory.specs.Memory.{Memory, word_at}
+use Rattle.py_fields.specs.declared.layout.Layout.{Layout}
+use Rattle.py_builtins.specs.Texts.{bit_is_set}
+use Rattle.py_census.specs.declared.places.KeysForm.{KeysForm}
+use Rattle.py_census.specs.declared.places.KeysForm.TheVariants.{Slots, Powers}
+use Rattle.py_census.specs.declared.places.SizePlaces.{SizePlaces}
+use Rattle.py_census.specs.declared.sizes.ClassSize.{ClassSize}
+use Rattle.py_census.specs.Sizes.{class_size_at, fits, known}
+
+-- `Py_TPFLAGS_LIST_SUBCLASS`, `Py_TPFLAGS_DICT_SUBCLASS`
+abbrev pub is_list : (flags : ℕ) → Bool
+is_list flags = bit_is_set flags 25
+
+abbrev pub is_dict : (flags : ℕ) → Bool
+is_dict flags = bit_is_set flags 29
+
+-- ---- lists
+
+-- items of a list, each an address
+abbrev pub room_of : Option ℕ → Option ℕ
+room_of None = None
+room_of (Some items) = fits (items * 8)
+
+-- the block of a list's items, as many as it has room for
+abbrev pub room_at : SizePlaces → Memory → (object : ℕ) → Option ℕ
+room_at p m object = room_of (known (word_at m (object + p.allocated)))
+
+-- ---- dicts
+
+-- an index has a number for each slot, of as many bytes as numbers up to that of the slots need
+abbrev pub index_width : (slots : ℕ) → ℕ
+index_width n = if nat_lt n 256 then 1 else (if nat_lt n 65536 then 2 else (if nat_lt n (2 ^ 32) then 4 else 8))
+
+-- an entry has a hash, a key and a value; of other kinds than 0 no hash
+abbrev pub entry_size : (kind : ℕ) → ℕ
+entry_size kind = if nat_eq kind 0 then 24 else 16
+
+-- a head, an index, and entries for two of three slots
+abbrev pub slots_bytes : (slots : ℕ) → Option ℕ
+slots_bytes n = fits (40 + n * index_width n + n * 2 / 3 * 24)
+
+abbrev pub powered : (slots index kind : ℕ) → Option ℕ
+powered slots index kind = fits (32 + 2 ^ index + 2 ^ slots * 2 / 3 * entry_size kind)
+
+-- the same by three bytes of a word
+abbrev pub powers_bytes : (word : ℕ) → Option ℕ
+powers_bytes w = if nat_lt (w % 256) 64 && nat_lt (w / 256 % 256) 64
+    then powered (w % 256) (w / 256 % 256) (w / 65536 % 256)
+    else None
+
+abbrev pub keys_bytes : KeysForm → (word : ℕ) → Option ℕ
+keys_bytes Slots w = slots_bytes w
+keys_bytes Powers w = powers_bytes w
+
+-- keys count where one object alone has them
+abbrev pub own_bytes : KeysForm → (owners word : Option ℕ) → Option ℕ
+own_bytes form None word = None
+own_bytes form (Some owners) None = None
+own_bytes form (Some owners) (Some word) = if nat_eq owners 1 then keys_bytes form word else Some 0
+
+abbrev pub keys_at : SizePlaces → Memory → (keys : Option ℕ) → Option ℕ
+keys_at p m None = None
+keys_at p m (Some keys) = own_bytes p.keys_form (known (word_at m (keys + 0))) (known (word_at m (keys + 8)))
+
+-- the block of a dict's keys
+abbrev pub dict_at : SizePlaces → Memory → (object : ℕ) → Option ℕ
+dict_at p m object = keys_at p m (known (word_at m (object + p.keys)))
+
+-- ---- objects
+
+abbrev pub block_at : SizePlaces → Memory → (flags object : ℕ) → Option ℕ
+block_at p m flags object =
+    if is_list flags then room_at p m object else (if is_dict flags then dict_at p m object else Some 0)
+
+abbrev pub more_by : SizePlaces → Memory → Option ClassSize → (object : ℕ) → Option ℕ
+more_by p m None object = None
+more_by p m (Some class) object = block_at p m class.flags object
+
+-- how many bytes an object of a class has in blocks of their own, where that is known
+abbrev pub more_at : Layout → SizePlaces → Memory → (class object : ℕ) → Option ℕ
+more_at l p m class object = more_by p m (class_size_at l p m class) object
