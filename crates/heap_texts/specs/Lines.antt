@@ -38,9 +38,9 @@ unknown_text n = if n == 0 then [] else codes ", " ++ (decimal n ++ codes " of u
 abbrev pub size_text : (objects bytes : ℕ) → List ℕ
 size_text objects bytes = codes "    " ++ (decimal objects ++ (codes " objects, " ++ (decimal bytes ++ codes " bytes")))
 
--- how many bytes the items of lists have, where there are any
+-- how many bytes lists and dicts have in blocks beside their own, where there are any
 abbrev pub more_text : ℕ → List ℕ
-more_text n = if n == 0 then [] else codes " and " ++ (decimal n ++ codes " of items")
+more_text n = if n == 0 then [] else codes " and " ++ (decimal n ++ codes " in other blocks")
 
 -- how many objects there are of a class, how many bytes, and its name, which ends the line
 abbrev pub class_line : HeapClass → List ℕ

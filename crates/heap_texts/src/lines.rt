@@ -68,14 +68,14 @@ fn push_unknown(text: &mut String, unknown: u64) -> Result<(), AllocError>
     write!(text, ", {unknown} of unknown size")
 }
 
-/// How many bytes the items of lists have, where there are any.
+/// How many bytes lists and dicts have in blocks beside their own, where there are any.
 fn push_more(text: &mut String, more: u64) -> Result<(), AllocError>
     ensures { OnOk result (string_bytes text.new ≡ string_bytes text.old ++ more_text more) }
 {
     if more == 0 {
         return Ok(());
     }
-    write!(text, " and {more} of items")
+    write!(text, " and {more} in other blocks")
 }
 
 /// How many objects there are of a class, and how many bytes.

@@ -198,7 +198,7 @@ fn runtime_value(alloc: Global, told: &Option<HeapTold>) -> Result<Value, AllocE
 /// `lists` (`youngest`, `middle`, `oldest`, `permanent`), each with how many `objects` it has and how it ends (`kind`
 /// `whole`, `torn`, `unreadable` or `cut`, the last three with an `address`); whether a collection runs or null; its
 /// `classes`, most bytes first, each with its `address`, `name` or null, `objects`, the `bytes` of their own blocks, those of
-/// lists' items (`more`), and of how many of them the size is `unknown`; and of how many objects the class is
+/// lists' items and dicts' keys (`more`), and of how many of them the size is `unknown`; and of how many objects the class is
 /// `unreadable`.
 ///
 /// The keys of an object stand in the order of their bytes. The one error is want of memory.

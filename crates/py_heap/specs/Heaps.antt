@@ -7,7 +7,8 @@ use Rattle.gc_lists.specs.Lists.Told.{AreHere, Elsewhere}
 use Rattle.gc_lists.specs.Rings.{Listing}
 use Rattle.gc_lists.specs.Walks.{most_members}
 use Rattle.py_census.specs.Censuses.{Counted, IsCensus}
-use Rattle.py_census.specs.Sizes.{class_at, more_at, size_at}
+use Rattle.py_census.specs.Blocks.{more_at}
+use Rattle.py_census.specs.Sizes.{class_at, size_at}
 use Rattle.py_heap.specs.Names.{named_classes, names_reads}
 use Rattle.py_heap.specs.Objects.{objects_of}
 use Rattle.py_heap.specs.declared.heap.Generation.{Generation}
@@ -53,7 +54,7 @@ abbrev pub objects_told : HeapTold → ℕ
 objects_told (told.NoLists head) = 0
 objects_told (told.Counted h) = h.youngest.objects + h.middle.objects + h.oldest.objects + h.permanent.objects
 
--- seven reads of each object, those of names, and 21 more
+-- nine reads of each object, those of names, and 21 more
 abbrev pub heap_reads : {E : Type 0} → Result HeapTold E → ℕ
-heap_reads (Ok told) = 7 * objects_told told + 21 + names_reads
-heap_reads (Err e) = 7 * (4 * most_members) + 21 + names_reads
+heap_reads (Ok told) = 9 * objects_told told + 21 + names_reads
+heap_reads (Err e) = 9 * (4 * most_members) + 21 + names_reads

@@ -16,7 +16,8 @@ pub struct Generation {
 /// A class of which there are objects.
 #[derive(Debug, Drop)]
 pub struct HeapClass {
-    /// Its address, how many objects there are of it, how many bytes their own blocks have, and how many the items of lists.
+    /// Its address, how many objects there are of it, how many bytes their own blocks have, and how many the blocks of their own that lists and dicts
+    /// have beside.
     pub counted: CountedClass,
     /// Its name; none where it can't be read, and of classes behind the first 2,048.
     pub name: Option<ClassName>,

@@ -3,7 +3,8 @@ use Rattle.std.proofs.lemmas.Result.{err_from_is_err_and}
 use Rattle.process_memory.proofs.Reading.{reading_gives, reading_none, reading_then}
 use Rattle.gc_lists.specs.Lists.{four_of}
 use Rattle.py_census.specs.Censuses.{IsCensus, counted_of}
-use Rattle.py_census.specs.Sizes.{class_at, more_at, size_at}
+use Rattle.py_census.specs.Blocks.{more_at}
+use Rattle.py_census.specs.Sizes.{class_at, size_at}
 use Rattle.py_heap.specs.Heaps.{IsHeap}
 use Rattle.py_heap.specs.Names.{named_classes}
 use Rattle.py_heap.proofs.Counting.{length_objects}
