@@ -228,7 +228,7 @@ class HeapClass(NamedTuple):
     size: int
     """How many bytes their own blocks have, of those whose size is known."""
     more: int = 0
-    """How many the items of lists have beside."""
+    """How many lists and dicts have in other blocks."""
     unknown: int = 0
     """Of how many of them it isn't."""
 

@@ -25,6 +25,10 @@ class Rows(list):
     __slots__ = ()
 
 
+class Table(dict):
+    __slots__ = ()
+
+
 class Plain:
     def __init__(self, number):
         self.number = number
@@ -49,7 +53,7 @@ def census(classes):
 
 def told(kind):
     """What is said."""
-    rows = census((Slotted, Pair, Rows, Plain, Ring, dict, list))
+    rows = census((Slotted, Pair, Rows, Table, Plain, Ring, dict, list))
     # (its address lets a copy of the core be torn at its head)
     return json.dumps({"kind": kind, "classes": rows, "all": len(gc.get_objects()), "middle": id(KEPT[len(KEPT) // 2])})
 
@@ -64,6 +68,8 @@ KIND = sys.argv[1]
 KEPT = [Slotted(it) for it in range(MANY)]
 PAIRS = [Pair((it, [], it)) for it in range(MANY // 2)]
 ROWS = [Rows(range(it % 50)) for it in range(MANY // 3)]
+TABLES = [Table((number, [number]) for number in range(it % 40)) for it in range(MANY // 3)]
+NAMED = [Table((str(number), []) for number in range(it % 40)) for it in range(MANY // 3)]
 PLAIN = [Plain(it) for it in range(MANY)]
 for _ in range(MANY // 4):
     Ring()

@@ -3,9 +3,9 @@
 
     tools/check/real/real_heap.py --program crates/pystacks/out/pystacks --salvage crates/pysalvage/out/pysalvage [PYTHON..]
 
-For each Python that is installed: thousands of objects with slots, tuples, lists, instances and cycles, in a process that aborts as it is,
+For each Python that is installed: thousands of objects with slots, tuples, lists, dicts, instances and cycles, in a process that aborts as it is,
 behind `gc.freeze`, with cycles that nothing refers to, and in a collection. How many objects there are of each class is as `gc.get_objects`
-had it, and the bytes of those with slots, tuples and lists as `sys.getsizeof` had them; of all objects at most 300 are others, which came or
+had it, and the bytes of those with slots, tuples, lists and dicts as `sys.getsizeof` had them; of all objects at most 300 are others, which came or
 went behind the count. A copy whose list is torn at an object says so there, and counts what stands before. 3.6 and before are told as not
 described. The status is 0 exactly where nothing that was tried failed.
 """
@@ -39,8 +39,8 @@ TOOL = TOOLS / "dump_core.py"
 
 KINDS = ("plain", "frozen", "garbage", "collecting")
 
-SIZED = ("Slotted", "Pair", "Rows")
-"""The classes whose objects have no other blocks than their own and their items'."""
+SIZED = ("Slotted", "Pair", "Rows", "Table")
+"""The classes whose objects have no other blocks than their own, their items' and their keys'."""
 
 COUNTED = (*SIZED, "Plain", "Ring")
 

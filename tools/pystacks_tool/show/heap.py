@@ -20,7 +20,7 @@ def head_of(heap: Heap) -> str:
     if heap.fault:
         return f"{owner}: {heap.fault}"
     objects, size = sum(it.objects for it in heap.classes), sum(it.total for it in heap.classes)
-    return f"{owner}: {plural(objects, 'object')} that the collector tracks, {size:,} bytes with lists' items, without dicts' keys and what isn't tracked"
+    return f"{owner}: {plural(objects, 'object')} that the collector tracks, {size:,} bytes, without what isn't tracked"
 
 
 def row_of(one: HeapClass) -> str:
