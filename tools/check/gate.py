@@ -63,6 +63,7 @@ CHECKS = (
     Check("tests/test_exceptions"),
     Check("tests/test_values"),
     Check("tests/test_waits"),
+    Check("tests/test_heap"),
     Check("tests/test_merged"),
     Check("tests/test_core_text"),
     Check("tests/test_layout_check"),

@@ -1,6 +1,6 @@
 """The memory of a process by kinds of mappings, as its core's program headers tell it."""
 
-from typing import IO, Dict, List, Sequence, Tuple
+from typing import IO, Dict, Iterable, List, Sequence, Tuple
 
 from pystacks_tool.cores.headers import Header, headers_of
 from pystacks_tool.cores.maps import EXECUTABLE, LOAD, WRITABLE, maps_of
@@ -41,7 +41,7 @@ def mapped_of(file: IO[bytes], stacks: Sequence[int]) -> Tuple[Mapped, ...]:
     return (*largest(found.values()), *with_rest(largest(files.values())))
 
 
-def largest(rows: Sequence[Mapped]) -> List[Mapped]:
+def largest(rows: Iterable[Mapped]) -> List[Mapped]:
     """Those of which the core has the most first."""
     return sorted(rows, key=lambda it: (-it.held, -it.size, it.kind))
 

@@ -1,0 +1,103 @@
+#!/usr/bin/env python3
+"""Tests how the tool shows what fills the memory: heaps by class, lists that aren't whole, and mappings."""
+
+import io
+import struct
+import unittest
+
+import rooms  # noqa: F401
+from pystacks_tool.ask.heap import heaps_of
+from pystacks_tool.cores.memory import mapped_of
+from pystacks_tool.model import Interpreter, Mapped, Report
+from pystacks_tool.show.heap import heaps_lines
+from pystacks_tool.show.page import report_page
+from pystacks_tool.show.text import Style
+
+
+def one_class(name, objects, size, more=0, unknown=0):
+    """A class, as the JSON has it."""
+    return {"address": "0x70", "name": name, "objects": objects, "bytes": size, "more": more, "unknown": unknown}
+
+
+def lists(kind="whole"):
+    """The lists of the collector, of which the oldest ends so."""
+    end = {"kind": kind} if kind == "whole" else {"kind": kind, "address": "0xbad0"}
+    return {key: {"objects": number, "end": end if key == "oldest" else {"kind": "whole"}} for number, key in enumerate(("youngest", "middle", "oldest", "permanent"))}
+
+
+def heap(*classes, kind="whole", collecting=False, unreadable=0, interpreter="0x10"):
+    """A heap, as the JSON has it."""
+    return {"interpreter": interpreter, "kind": "heap", "classes": list(classes), "collecting": collecting, "lists": lists(kind), "unreadable": unreadable}
+
+
+def shown(*trees, shows_all=False):
+    """The lines of heaps."""
+    return list(heaps_lines(Report((), "3.11.7", heaps=heaps_of(list(trees))), shows_all))
+
+
+class Heaps(unittest.TestCase):
+    """What heaps hold."""
+
+    def test_lines(self):
+        found = shown(heap(one_class("m.Order", 2000, 96000), one_class("dict", 1000, 64000, 104000, 3)))
+        self.assertEqual(found, [
+            "Heap of the interpreter at 0x10: 3,000 objects that the collector tracks, 264,000 bytes, without what isn't tracked",
+            "    generation 0 0, generation 1 1, generation 2 2, the permanent generation 3",
+            "         objects            bytes  class",
+            "           1,000          168,000  dict (3 of unknown size)",
+            "           2,000           96,000  m.Order"])
+
+    def test_marks(self):
+        found = shown(heap(kind="torn", collecting=True, unreadable=5))
+        self.assertEqual(found[2:], ["    ... a collection ran", "    ... generation 2 is torn at 0xbad0", "    ... 5 objects whose class can't be read"])
+        self.assertIn("    ... generation 2 has more, from 0xbad0", shown(heap(kind="cut")))
+
+    def test_many(self):
+        """Forty classes have a line, and the others one."""
+        rows = [one_class(f"m.C{it}", 1, 1000 - it) for it in range(42)]
+        self.assertEqual(shown(heap(*rows))[-1], "               2            1,919  2 more classes: --all shows each")
+        self.assertEqual(len(shown(heap(*rows), shows_all=True)), 45)
+
+    def test_names(self):
+        """A name that can't be read, and one that would forge a line."""
+        found = shown(heap(one_class(None, 1, 1), one_class("m.a\nHeap: b", 1, 1)))
+        self.assertEqual([it for it in found[3:] if "\n" in it], [])
+        self.assertIn("class at 0x70", found[3])
+
+    def test_none(self):
+        self.assertEqual(shown({"interpreter": None, "kind": "no runtime"}), ["Heap: no symbol tells where the runtime is"])
+        self.assertEqual([it.fault for it in heaps_of(None)], ["not described for this version of Python"])
+
+    def test_page(self):
+        report = Report((Interpreter((), 0x10),), "3.11.7", 6, core="core", heaps=heaps_of([heap(one_class("m.<b>", 1, 1))]), mapped=(Mapped("a<b", 1, 2, 3),))
+        page = report_page(report, Style())
+        self.assertIn("m.&lt;b&gt;", page)
+        self.assertIn("a&lt;b (1)", page)
+
+
+def core_of(*segments):
+    """A core of load segments: flags, start, size in memory, and bytes."""
+    head = bytearray(b"\x7fELF\2\1\1" + bytes(57))
+    struct.pack_into("<2HI3QI6H", head, 16, 4, 62, 1, 0, 64, 0, 0, 64, 56, len(segments), 0, 0, 0)
+    rows, data, at = b"", b"", 64 + 56 * len(segments)
+    for flags, start, size, held in segments:
+        rows += struct.pack("<2I6Q", 1, flags, at + len(data), start, 0, len(held), size, 1)
+        data += held
+    return io.BytesIO(bytes(head) + rows + data)
+
+
+class Mappings(unittest.TestCase):
+    """The memory of a process, by kinds of mappings."""
+
+    def test_kinds(self):
+        file = core_of((6, 0x1000, 0x3000, b"a" * 0x1000), (6, 0x8000, 0x1000, b"s" * 0x1000), (5, 0x9000, 0x1000, b""), (4, 0xA000, 0x1000, b""))
+        self.assertEqual(mapped_of(file, [0x8800]), (
+            Mapped("heap and other memory without a file", 1, 0x3000, 0x1000), Mapped("stacks of threads", 1, 0x1000, 0x1000),
+            Mapped("code without a file", 1, 0x1000, 0), Mapped("memory without a file that isn't writable", 1, 0x1000, 0)))
+
+    def test_none(self):
+        self.assertEqual(mapped_of(io.BytesIO(b"no core"), []), ())
+
+
+if __name__ == "__main__":
+    unittest.main()
