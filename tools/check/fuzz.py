@@ -32,6 +32,7 @@ from rooms import BUILT_LISTING, BUILT_SALVAGE, ROOT  # (first: it makes the oth
 import changes
 import rows_dump
 import rows_frames
+import rows_heap
 import rows_layout_check
 import rows_merge
 import rows_names
@@ -56,7 +57,7 @@ SECONDS, MEMORY = 10, 300 * 10 ** 6
 COMMANDS: Dict[str, Callable[[], List[Row]]] = {
     "dump": rows_dump.rows, "walk": rows_walk.rows, "triage": rows_triage.rows, "reach": rows_reach.rows,
     "merge": rows_merge.rows, "locate": rows_slim.rows, "slim": rows_slim.slim_rows, "sample": lambda: [],
-    "pysalvage": lambda: [*rows_salvage.rows(), *rows_names.rows(), *rows_native.rows(), *rows_tasks.rows(), *rows_layout_check.rows()], "frames": rows_frames.rows}
+    "pysalvage": lambda: [*rows_salvage.rows(), *rows_names.rows(), *rows_native.rows(), *rows_tasks.rows(), *rows_heap.rows(), *rows_layout_check.rows()], "frames": rows_frames.rows}
 """The commands, and whose rows the cases begin with. (`pysalvage` and `listing`, which has `frames`, are programs of their
 own. Those of `sample` begin with cores that it writes.)"""
 

@@ -27,6 +27,7 @@ from rooms import BUILT_SALVAGE  # (first: it makes the other rooms known)
 
 import fuzz
 import rows_dump
+import rows_heap
 import rows_merge
 import rows_reach
 import rows_salvage
@@ -44,7 +45,8 @@ CHOSEN = (
     (rows_reach.rows, "reach: a list"), (rows_slim.rows, "slim: where the interpreter is"),
     (rows_slim.slim_rows, "slim: with its values"), (rows_sample.rows, "sample: 7"))
 OF_SALVAGE = ((rows_salvage.rows, "salvage: interpreters: two"), (rows_salvage.rows, "salvage: JSON of what is broken"),
-              (rows_salvage.rows, "salvage: registers"), (rows_tasks.rows, "salvage: tasks: waiting"), (rows_tasks.rows, "salvage: tasks: JSON"))
+              (rows_salvage.rows, "salvage: registers"), (rows_tasks.rows, "salvage: tasks: waiting"), (rows_tasks.rows, "salvage: tasks: JSON"),
+              (rows_heap.rows, "salvage: heap: two objects of one class"), (rows_heap.rows, "salvage: heap: JSON: classes"))
 """Which rows are run: of each list the first that answers with a text, and whose name begins so."""
 
 FAULTS = (("malloc", "refused"), ("realloc", "refused"), ("read", "failed"), ("read", "interrupted"), ("read", "short"),

@@ -25,6 +25,7 @@ from rooms import BUILT_SALVAGE  # (first: it makes the other rooms known)
 from made import EXAMPLE, Objects, Segment, Symbol, core_file, image_file, layout_of
 from measure import Shape, core, machine, row
 from small_core import BSS, FRAME, GOOD, HEAP, IMAGE, THREAD, bss, files_of, heap, mapped, of_locals, small
+from made_heaps import of_long_dicts, of_members, of_woven_members
 from rows_merge import EXTENSION, WITH_EXTENSION
 from rows_native import CODE, PAGE, RESUMES, STACK, WORDS as NATIVE, files_over, status
 from rows_salvage import named
@@ -39,6 +40,8 @@ LONG = "f" * 4095
 
 SALVAGE = f"core --layouts layouts {IMAGE}"
 """The words of `pysalvage`."""
+
+HEAPS = f"{SALVAGE} --records records --heap"
 
 Files = Dict[str, bytes]
 
@@ -246,6 +249,16 @@ def judged() -> Iterator[Case]:
         yield Case(f"`{command}`: a bss of 30 MB of which 16 bytes are there", OVER_CORES[command], missing, outcome, memory=32)
 
 
+def heaps() -> Iterator[Case]:
+    """Those of `pysalvage --heap`, with as many members of a list as a core of 4 MB has."""
+    for words, form in ((HEAPS, "text"), (f"{HEAPS} -j", "JSON")):
+        yield Case(f"`--heap`: 131,072 objects of one class, as {form}", words, lambda: of_members(131_072, 32), "0")
+        yield Case(f"`--heap`: 262,144 objects of a class each, as {form}", words, lambda: of_members(262_144, 16), "0")
+        yield Case(f"`--heap`: 524,288 objects of a class each, 8 bytes apart, as {form}", words, lambda: of_woven_members(524_288), "0")
+    yield Case("`--heap`: 2048 classes that have one dict of 4096 names of a character", HEAPS, lambda: of_long_dicts(2048, 1), "0")
+    yield Case("`--heap`: the same, of 4095 characters", HEAPS, lambda: of_long_dicts(2048, 4095), "0")
+
+
 def apart() -> Iterator[Case]:
     """Those that have a bound of their own, which is told in docs/MEASURES.md."""
     yield Case("4096 threads of the same 4096 frames, whose ends are shown", SALVAGE,
@@ -346,7 +359,7 @@ def main() -> int:
     print(f"{machine()}; within {words.seconds} s and {words.memory} MB.\n")
     print(row(heads) + "\n|" + "---|" * len(heads), flush=True)
     odd = 0
-    for case in (*(() if words.judged else (*cases(), *cases_of_salvage(), *shared())), *judged(), *apart()):
+    for case in (*(() if words.judged else (*cases(), *cases_of_salvage(), *shared())), *judged(), *heaps(), *apart()):
         program = words.salvage if case.is_of_salvage() else words.program
         if words.only in case.what and os.path.isfile(program):
             it = measured_thrice(os.path.abspath(program), case, words.seconds, words.memory * 10 ** 6)
