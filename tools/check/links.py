@@ -67,12 +67,9 @@ def said(file: Path) -> List[str]:
 
 def begun(crate: str) -> str:
     """The page of a crate without what is proved of it."""
-    own = crates()
     source = ROOT / "crates" / crate / "src"
     root = source / "lib.rt" if (source / "lib.rt").is_file() else source / "main.rt"
-    below = ", ".join(f"[{it}](../{it}/README.md)" if it in own else f"`{it}`" for it in own[crate])
-    parts = [*said(root), f"It stands on {below}."] if below else said(root)
-    texts = [it if it.startswith("|") else textwrap.fill(it, 120, break_long_words=False, break_on_hyphens=False) for it in parts]
+    texts = [it if it.startswith("|") else textwrap.fill(it, 120, break_long_words=False, break_on_hyphens=False) for it in said(root)]
     rows = [f"- `{name}`: {said(file)[0]}" for name, file in modules(crate).items()]
     listed = [textwrap.fill(it, 120, subsequent_indent="  ", break_long_words=False, break_on_hyphens=False) for it in rows]
     heads = [f"# {crate}", *texts, *(["## Modules", "\n".join(listed)] if listed else []), "## What is proved, and what is not"]

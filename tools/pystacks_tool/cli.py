@@ -44,6 +44,7 @@ def add_shown(parser: argparse.ArgumentParser) -> None:
     parser.add_argument("--no-tasks", action="store_true", help="without the tasks of asyncio")
     parser.add_argument("--no-waits", action="store_true", help="without what threads wait for")
     parser.add_argument("--heap", action="store_true", help="show what fills the memory: the objects of each class, and the mappings")
+    parser.add_argument("--diff", metavar="FILE", default="", help="with --heap: what grew since an earlier core, whose JSON (-j --heap) is in this file")
     parser.add_argument("--no-exceptions", action="store_true", help="without the exceptions that threads raise and handle")
     parser.add_argument("--stacks", action="store_true", help="each stack whole, once, however many there are")
     parser.add_argument("--all", action="store_true", help="each thread with its own stack, and each frame with its line")
@@ -160,7 +161,7 @@ def options_of(words: argparse.Namespace) -> Options:
     return Options(
         cores=tuple("/dev/stdin" if it == "-" else it for it in words.core), locals=words.locals, hidden=hidden_by(words), signal=not words.no_signal, registers=words.registers, tasks=not words.no_tasks,
         exceptions=not words.no_exceptions,
-        waits=not words.no_waits, heap=words.heap,
+        waits=not words.no_waits, heap=words.heap, diff=words.diff,
         native=words.native or words.all_native, all_native=words.all_native, strict=words.strict, where=not words.no_where, shows_all=words.all, shows_stacks=words.stacks, frames=words.frames, source=words.source, json=words.json,
         collapsed=words.collapsed, html=words.html, group=words.group, plain=words.plain, root=words.root, maps=words.maps,
         keep=words.keep, memory=words.memory, any_layout=words.any_layout, layouts=words.layouts, records=words.records, program=words.program, salvage=words.salvage,
@@ -203,6 +204,8 @@ def clash(options: Options) -> str:
     fault = clash_of_many(options) if options.group or options.keys else "--from is taken with --group" if options.lines else ""
     if fault:
         return fault
+    if options.diff and not options.heap:
+        return "--diff is taken with --heap"
     if options.collapsed and options.locals:
         return "--collapsed takes no -l"
     if options.plain and options.hidden:

@@ -253,6 +253,15 @@ class Heap(NamedTuple):
     """Why it isn't told, if it isn't."""
 
 
+class Growth(NamedTuple):
+    """How much more there is of a class than in an earlier core."""
+
+    name: str
+    objects: int
+    size: int
+    """In bytes."""
+
+
 class Mapped(NamedTuple):
     """The mappings of one kind."""
 
@@ -337,6 +346,8 @@ class Report(NamedTuple):
     """The rings of threads that wait for each other, each in a line."""
     heaps: Tuple[Heap, ...] = ()
     """What the heaps hold, where that is asked for."""
+    growth: Tuple[Growth, ...] = ()
+    """How the classes grew since an earlier core, where one is named: what grew most first. A class that didn't isn't there."""
     mapped: Tuple[Mapped, ...] = ()
     """The memory of the process by kinds of mappings, where heaps are asked for."""
 

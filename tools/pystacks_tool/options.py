@@ -33,6 +33,8 @@ class Options(NamedTuple):
     """Whether it is told what threads wait for."""
     heap: bool = False
     """Whether it is told what heaps hold."""
+    diff: str = ""
+    """The file of an earlier core's JSON, since which it is told what grew, if one is named."""
     native: bool = False
     """Whether native stacks are."""
     all_native: bool = False

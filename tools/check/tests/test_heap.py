@@ -2,13 +2,17 @@
 """Tests how the tool shows what fills the memory: heaps by class, lists that aren't whole, and mappings."""
 
 import io
+import json
 import struct
+import tempfile
 import unittest
+from pathlib import Path
 
 import rooms  # noqa: F401
-from pystacks_tool.ask.heap import heaps_of
+from pystacks_tool.ask.heap import earlier_heaps, growth_of, heaps_of
 from pystacks_tool.cores.memory import mapped_of
-from pystacks_tool.model import Interpreter, Mapped, Report
+from pystacks_tool.faults import Fault
+from pystacks_tool.model import Growth, Interpreter, Mapped, Report
 from pystacks_tool.show.heap import heaps_lines
 from pystacks_tool.show.page import report_page
 from pystacks_tool.show.text import Style
@@ -67,6 +71,27 @@ class Heaps(unittest.TestCase):
     def test_none(self):
         self.assertEqual(shown({"interpreter": None, "kind": "no runtime"}), ["Heap: no symbol tells where the runtime is"])
         self.assertEqual([it.fault for it in heaps_of(None)], ["not described for this version of Python"])
+
+    def test_growth(self):
+        """What grew most stands first, what shrank last, and what is the same nowhere."""
+        before = heaps_of([heap(one_class("m.A", 5, 500), one_class("m.B", 1, 10), one_class("m.C", 3, 30))])
+        now = heaps_of([heap(one_class("m.A", 4, 400), one_class("m.B", 2, 20, 100), one_class("m.C", 3, 30), one_class("m.D", 1, 50))])
+        self.assertEqual(growth_of(before, now), (Growth("m.B", 1, 110), Growth("m.D", 1, 50), Growth("m.A", -1, -100)))
+        lines = list(heaps_lines(Report((), "3.11.7", growth=growth_of(before, now)), False))
+        self.assertEqual(lines[:2], ["Grown since the earlier core: +1 objects, +60 bytes", "              +1             +110  m.B"])
+
+    def test_earlier(self):
+        """What `-j --heap` wrote of an earlier core is read, and nothing else."""
+        with tempfile.TemporaryDirectory() as name:
+            path = Path(name) / "earlier"
+            path.write_text(json.dumps({"heap": [heap(one_class("m.A", 5, 500))]}), encoding="utf-8")
+            self.assertEqual(earlier_heaps(str(path)), heaps_of([heap(one_class("m.A", 5, 500))]))
+            for text in ("", "[]", "{}", '{"heap": null}', '{"heap": 3}', '{"heap": [{"interpreter": null, "kind": "no runtime"}]}', "[" * 100000):
+                path.write_text(text, encoding="utf-8")
+                with self.assertRaisesRegex(Fault, "has no heaps"):
+                    earlier_heaps(str(path))
+            with self.assertRaisesRegex(Fault, "cannot read .*: No such file"):
+                earlier_heaps(str(path) + "2")
 
     def test_page(self):
         report = Report((Interpreter((), 0x10),), "3.11.7", 6, core="core", heaps=heaps_of([heap(one_class("m.<b>", 1, 1))]), mapped=(Mapped("a<b", 1, 2, 3),))

@@ -1,9 +1,11 @@
 """What `pysalvage --heap` told of what heaps hold: how many objects of each class the collector tracks, and their bytes."""
 
-from typing import List, Optional, Tuple
+import json
+from typing import Dict, List, Optional, Sequence, Tuple
 
 from pystacks_tool.ask.dump import Tree
-from pystacks_tool.model import Heap, HeapClass
+from pystacks_tool.faults import BAD_WORDS, Fault, shown
+from pystacks_tool.model import Growth, Heap, HeapClass
 
 FLAG = "--heap"
 """The section's flag."""
@@ -51,3 +53,41 @@ def heaps_of(trees: Optional[List[Tree]]) -> Tuple[Heap, ...]:
     if trees is None:
         return (Heap("", fault="not described for this version of Python"),)
     return tuple(heap_of(it) for it in trees)
+
+
+def counts_of(heaps: Sequence[Heap]) -> Dict[str, Tuple[int, int]]:
+    """How many objects and bytes the classes of a name have, in all heaps."""
+    found: Dict[str, Tuple[int, int]] = {}
+    for it in (one for heap in heaps for one in heap.classes):
+        objects, size = found.get(it.name, (0, 0))
+        found[it.name] = objects + it.objects, size + it.total
+    return found
+
+
+def growth_of(before: Sequence[Heap], now: Sequence[Heap]) -> Tuple[Growth, ...]:
+    """How the classes grew, what grew most first; what shrank stands last."""
+    old, new = counts_of(before), counts_of(now)
+    rows = []
+    for name in {**old, **new}:
+        (objects, size), (objects_now, size_now) = old.get(name, (0, 0)), new.get(name, (0, 0))
+        rows.append(Growth(name, objects_now - objects, size_now - size))
+    return tuple(sorted((it for it in rows if it.objects or it.size), key=lambda it: (-it.size, -it.objects, it.name)))
+
+
+EARLIER = "--diff names what -j --heap wrote of an earlier core"
+"""What is said of a file that is none."""
+
+
+def earlier_heaps(path: str) -> Tuple[Heap, ...]:
+    """The heaps of an earlier core, by the JSON that the tool wrote of it."""
+    name = shown(path.encode("utf-8", "surrogateescape"))
+    try:
+        with open(path, encoding="utf-8") as file:
+            heaps = heaps_of(json.load(file)[KEY])
+    except OSError as error:
+        raise Fault(f"cannot read {name}: {error.strerror}", BAD_WORDS, EARLIER) from None
+    except (ValueError, KeyError, TypeError, AttributeError, RecursionError):
+        raise Fault(f"{name} has no heaps", BAD_WORDS, EARLIER) from None
+    if any(it.fault for it in heaps):
+        raise Fault(f"{name} has no heaps", BAD_WORDS, EARLIER)
+    return heaps

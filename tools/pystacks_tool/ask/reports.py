@@ -10,7 +10,7 @@ from functools import lru_cache, partial
 from typing import List, NamedTuple, Optional, Tuple
 
 from pystacks_tool.ask.dump import Tree, Unexpected, report_by_dump, tree_of
-from pystacks_tool.ask.heap import FLAG as HEAP, KEY as HEAP_KEY, heaps_of
+from pystacks_tool.ask.heap import FLAG as HEAP, KEY as HEAP_KEY, earlier_heaps, growth_of, heaps_of
 from pystacks_tool.ask.layout import DIFFERS, layout_in, refusal
 from pystacks_tool.ask.names import add_names, missing_files, readable_names
 from pystacks_tool.ask.native import FLAG as NATIVE, KEY as NATIVE_KEY, PAIRED_KEY, stacks_of as native_stacks_of
@@ -117,7 +117,9 @@ def with_heaps(options: Options, core: OpenedCore, program: str, report: Report,
         raise Unexpected(f"its JSON: {error!r}") from None
     stacks = [value for it in report.registers for name, value in it.values if name in ("rsp", "sp")]
     with open(core.word, "rb") as file:
-        return report._replace(heaps=heaps, mapped=mapped_of(file, stacks))
+        mapped = mapped_of(file, stacks)
+    growth = growth_of(earlier_heaps(options.diff), heaps) if options.diff else ()
+    return report._replace(heaps=heaps, mapped=mapped, growth=growth)
 
 
 def say_missing(files: List[str]) -> None:

@@ -2,7 +2,7 @@
 
 from typing import Iterator, List, Sequence
 
-from pystacks_tool.model import Heap, HeapClass, Mapped, Report
+from pystacks_tool.model import Growth, Heap, HeapClass, Mapped, Report
 from pystacks_tool.show.escape import in_line
 
 CLASSES = 40
@@ -74,8 +74,25 @@ def memory_lines(mapped: Sequence[Mapped]) -> Iterator[str]:
     yield from (mapped_row(it) for it in mapped)
 
 
+def growth_row(one: Growth) -> str:
+    """The line of how a class grew."""
+    return f"    {one.objects:>+12,} {one.size:>+16,}  {in_line(one.name)}"
+
+
+def growth_lines(growth: Sequence[Growth], shows_all: bool) -> Iterator[str]:
+    """How the classes grew since an earlier core: those that grew most, and then how many others changed."""
+    if not growth:
+        return
+    shown = growth if shows_all else growth[:CLASSES]
+    yield f"Grown since the earlier core: {sum(it.objects for it in growth):+,} objects, {sum(it.size for it in growth):+,} bytes"
+    yield from map(growth_row, shown)
+    if len(shown) < len(growth):
+        yield f"    ... {len(growth) - len(shown)} other classes: --all shows each"
+
+
 def heaps_lines(report: Report, shows_all: bool) -> Iterator[str]:
     """All of it, where it is asked for."""
     yield from memory_lines(report.mapped)
     for it in report.heaps:
         yield from heap_lines(it, shows_all)
+    yield from growth_lines(report.growth, shows_all)

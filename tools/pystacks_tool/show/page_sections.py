@@ -2,7 +2,7 @@
 
 from typing import Iterator, List, NamedTuple, Sequence
 
-from pystacks_tool.model import Heap, Mapped, NativeFrame, NativeStack, Report, Task, Tasks
+from pystacks_tool.model import Growth, Heap, Mapped, NativeFrame, NativeStack, Report, Task, Tasks
 from pystacks_tool.show.escape import in_line
 from pystacks_tool.show.heap import counts_of, head_of
 from pystacks_tool.show.native import crashed_first, frame_line, part_lines, stack_title, thread_names
@@ -106,6 +106,11 @@ def mapped_table(mapped: Sequence[Mapped]) -> str:
     return table_of(("bytes", "in the core", "mappings"), rows)
 
 
+def growth_table(growth: Sequence[Growth]) -> str:
+    """How the classes grew since an earlier core."""
+    return table_of(("more objects", "more bytes", "class"), [(f"{it.objects:+,}", f"{it.size:+,}", in_line(it.name)) for it in growth])
+
+
 def heap_part(heap: Heap) -> Iterator[str]:
     """What a heap holds."""
     mark = " class=\"end\"" if heap.fault else ""
@@ -127,5 +132,6 @@ def sections_of(report: Report, style: Style) -> List[Section]:
         found.append(Section("native", "Native stacks", "\n".join(native_of(report))))
     if report.heaps:
         rows = [mapped_table(report.mapped)] * bool(report.mapped) + [row for it in report.heaps for row in heap_part(it)]
+        rows += [growth_table(report.growth)] * bool(report.growth)
         found.append(Section("heap", "Memory", "\n".join(rows)))
     return found
