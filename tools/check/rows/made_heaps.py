@@ -3,9 +3,9 @@
 import struct
 from typing import Dict, List, Sequence, Tuple
 
-from made import EXAMPLE, Objects, Segment, core_file, edited
+from made import EXAMPLE, Segment, core_file, edited
 from rows_salvage import NAMED, runtime
-from small_core import HEAP, bss, files_of, heap, mapped
+from small_core import HEAP, PATH, bss, files_of, heap, mapped
 
 LAYOUT = edited(EXAMPLE, klass="{size=296, name=24, flags=168, dict_offset=288}")
 """The small core's layout, with classes as 3.9 has them: what a census reads of a class stands where it does in each version."""
@@ -16,19 +16,25 @@ major = 3
 minor = 9
 first_patch = 0
 last_patch = 2
-type = {size=408, basicsize=32, itemsize=40, repr=88, str=136, flags=168, weaklist=208, methods=232, members=240, getset=248, base=256, dict=264, dictoffset=288, bases=336, mro=344}
+type = {size=408, basicsize=32, itemsize=40, repr=88, str=136, flags=168, weaklist=208, methods=232, members=240, getset=248, \
+base=256, dict=264, dictoffset=288, bases=336, mro=344}
 heap_type = {size=880, qualname=856, cached_keys=864}
 """
 """Where classes have their names, as in 3.9."""
 
-HEADS = {"youngest": 640, "middle": 664, "oldest": 688, "permanent": 720}
-"""Where the heads of the lists stand in the interpreter of 3.9."""
+def heads_of(first: int) -> Dict[str, int]:
+    """Where the heads of the lists stand in an interpreter, by the first of them."""
+    return {"youngest": first, "middle": first + 24, "oldest": first + 48, "permanent": first + 80}
+
+
+FIRSTS = {9: 640, 13: 7424}
+"""Where the first head stands, by minor versions."""
+
+HEADS = heads_of(FIRSTS[9])
+"""Where the heads stand in the interpreter of 3.9."""
 
 COLLECTING = 816
-"""Where the 4 bytes stand that say whether a collection runs."""
-
-END = 832
-"""Behind the last of these, where it is divided by 16."""
+"""Where the 4 bytes stand there that say whether a collection runs."""
 
 BASIC_SIZE, ITEM_SIZE, FLAGS, DICT, QUALNAME = 32, 40, 168, 264, 856
 
@@ -39,12 +45,22 @@ NOWHERE = 0x70000000
 """An address that is not in memory."""
 
 
+def of_minor(text: str, minor: int) -> str:
+    """A text of 3.9 as it is of another minor version."""
+    return text.replace("3.9", f"3.{minor}").replace("minor = 9", f"minor = {minor}")
+
+
+def layout_of_minor(minor: int) -> str:
+    """The layout, for another minor version."""
+    return edited(LAYOUT, first_minor=str(minor), last_minor=str(minor))
+
+
 class MadeHeap:
     """The objects of such an interpreter, and where each stands, so that some of their words can be changed."""
 
-    def __init__(self, objects: Sequence[Objects] = ()) -> None:
-        self.objects = objects[0] if objects else heap(LAYOUT)
-        self.objects.write(HEAP + END - 1, b"\0")
+    def __init__(self, minor: int = 9) -> None:
+        self.objects, self.minor, self.heads = heap(LAYOUT), minor, heads_of(FIRSTS[minor])
+        self.objects.write(self.head("permanent"), bytes(112))
         self.lists: Dict[str, List[int]] = {it: [] for it in HEADS}
         self.link()
 
@@ -97,7 +113,7 @@ class MadeHeap:
 
     def head(self, of: str) -> int:
         """Where the head of a list stands."""
-        return HEAP + HEADS[of]
+        return HEAP + self.heads[of]
 
     def link(self) -> None:
         """Has each list lead from its head to its members, and each of these back to the one before. The two lowest bits of links back say
@@ -115,8 +131,8 @@ class MadeHeap:
             parts.append(Segment(HEAP + begin, data[begin:first], 6))
             begin = last
         parts.append(Segment(HEAP + begin, data[begin:], 6))
-        core = core_file([*parts, *more, mapped(), bss(0, 0), runtime(*interpreters)])
-        return {**files_of(core, LAYOUT, NAMED), "records": RECORDS}
+        core = core_file([*parts, *more, mapped(of_minor(PATH.decode(), self.minor).encode()), bss(0, 0), runtime(*interpreters)])
+        return {**files_of(core, layout_of_minor(self.minor), NAMED), "records": of_minor(RECORDS.decode(), self.minor).encode()}
 
 
 # ---- heaps that ask for much

@@ -3,7 +3,8 @@
 import json
 from typing import Callable, Dict, Iterator, List, Optional, Sequence, Tuple
 
-from made_heaps import BYTES, COLLECTING, DICTS, FLAGS, HEADS, INTEGER, LIST, NOWHERE, QUALNAME, RECORDS, TRACKED, TUPLE, TYPE, MadeHeap
+from made_heaps import BYTES, COLLECTING, DICTS, FLAGS, HEADS, INTEGER, LIST, NOWHERE, QUALNAME, RECORDS, TRACKED, TUPLE, TYPE
+from made_heaps import MadeHeap, of_minor
 from row import Row
 from rows_salvage import GOOD, broken_tree, salvage
 from small_core import HEAP, TEXT
@@ -16,7 +17,7 @@ GENERATIONS = {"youngest": "generation 0", "middle": "generation 1", "oldest": "
 
 def rows() -> Iterator[Row]:
     """All of them."""
-    for part in (counted, sizes, keys, names, lost, ends, collecting, many, several, untold, trees):
+    for part in (counted, sizes, keys, names, lost, ends, collecting, many, several, checked, untold, trees):
         yield from part()
 
 
@@ -221,7 +222,8 @@ def ends() -> Iterator[Row]:
     made, (first, second, third) = of_three("youngest")
     own = made.head("youngest")
     made.objects.word(own + 8, second)
-    yield told("end: its own head, which names another one", made, left_of("youngest", 3) + f"    generation 0 is torn at 0x{own:x}\n" + line(4, 192, "T"))
+    yield told("end: its own head, which names another one", made,
+               left_of("youngest", 3) + f"    generation 0 is torn at 0x{own:x}\n" + line(4, 192, "T"))
     made, (first, second, third) = of_three("youngest")
     made.objects.word(third, first)
     yield told("end: one that was met", made, left_of("youngest", 3) + f"    generation 0 is torn at 0x{first:x}\n" + line(4, 192, "T"))
@@ -240,7 +242,8 @@ def ends() -> Iterator[Row]:
 def collecting() -> Iterator[Row]:
     """Whether a collection runs."""
     for what, number, text in (
-        ("one runs", 1, "    a collection runs\n"), ("in the highest byte", 2 ** 31, "    a collection runs\n"), ("behind the four bytes", 2 ** 32, ""),
+        ("one runs", 1, "    a collection runs\n"), ("in the highest byte", 2 ** 31, "    a collection runs\n"),
+        ("behind the four bytes", 2 ** 32, ""),
     ):
         made = MadeHeap()
         made.objects.word(HEAP + COLLECTING, number)
@@ -287,8 +290,35 @@ def several() -> Iterator[Row]:
     place, first = other + HEADS["oldest"], made.lists["youngest"][0]
     made.objects.word(first, place)
     made.objects.word(place + 8, first)
+    torn = f"is torn at 0x{place:x}\n"
     yield salvage("heap: a list that leads to the head of another interpreter's", HEAPS, made.files(), text
-                  + head(1) + f"    generation 0 is torn at 0x{place:x}\n" + line(1, 48, "T") + head(at=other) + f"    generation 2 is torn at 0x{place:x}\n")
+                  + head(1) + f"    generation 0 {torn}" + line(1, 48, "T") + head(at=other) + f"    generation 2 {torn}")
+
+
+def checked() -> Iterator[Row]:
+    """3.13, whose heads are believed where what they lead to, or what they name as before them, names them."""
+    words, text = of_minor(HEAPS, 13), of_minor(TEXT, 13)
+    made = MadeHeap(13)
+    made.add("middle", made.klass("T"))
+    yield salvage("heap: 3.13", words, made.files(), text + head(0, 1) + line(1, 48, "T"))
+    for name in HEADS:
+        made = MadeHeap(13)
+        at, aside = made.head(name), made.objects.write(made.objects.free(), bytes(16))
+        made.objects.word(at, aside)
+        made.objects.word(at + 8, aside)
+        yield salvage(f"heap: 3.13: no list for {GENERATIONS[name]}", words, made.files(), text + head().split(": ")[0] + f": no list at 0x{at:x}\n")
+    yield salvage("heap: JSON: 3.13: no list", f"{words} -j", made.files(), of_minor(tree_of([{"interpreter": hex(HEAP), "kind": "no lists"}]), 13))
+    made.objects.word(aside, at)
+    yield salvage("heap: 3.13: what a head names as before it leads to it", words, made.files(),
+                  text + head() + f"    the permanent generation is torn at 0x{aside:x}\n")
+    made.objects.word(at, at)
+    made.objects.word(at + 8, NOWHERE)
+    yield salvage("heap: 3.13: what a head leads to does not lead back", words, made.files(), text + head().split(": ")[0] + f": no list at 0x{at:x}\n")
+
+
+def without(group: bytes) -> bytes:
+    """The records without a group."""
+    return b"\n".join(it for it in RECORDS.split(b"\n") if not it.startswith(group + b" "))
 
 
 def untold() -> Iterator[Row]:
@@ -297,9 +327,9 @@ def untold() -> Iterator[Row]:
     files, not_told = made.files(), "Heap: not described for this version\n"
     for what, words, records, text in (
         ("without the flag", f"{GOOD} --records records", RECORDS, ""), ("no records", f"{GOOD} --heap", RECORDS, not_told),
-        ("records of no release", HEAPS, b"records = []\n", not_told), ("of another release", HEAPS, RECORDS.replace(b"minor = 9", b"minor = 10"), not_told),
-        ("without classes of the heap", HEAPS, b"\n".join(it for it in RECORDS.split(b"\n") if not it.startswith(b"heap_type")), not_told),
-        ("without classes", HEAPS, b"\n".join(it for it in RECORDS.split(b"\n") if not it.startswith(b"type")), not_told),
+        ("records of no release", HEAPS, b"records = []\n", not_told),
+        ("of another release", HEAPS, RECORDS.replace(b"minor = 9", b"minor = 10"), not_told),
+        ("without classes of the heap", HEAPS, without(b"heap_type"), not_told), ("without classes", HEAPS, without(b"type"), not_told),
     ):
         yield salvage(f"heap: {what}", words, {**files, "records": records}, TEXT + text)
 
@@ -327,7 +357,8 @@ def heap_tree(
     """The JSON of a heap, of whose lists these have objects, or no whole end."""
     whole = (0, {"kind": "whole"})
     told_lists = {name: {"end": lists.get(name, whole)[1], "objects": lists.get(name, whole)[0]} for name in HEADS}
-    return {"classes": list(classes), "collecting": is_collecting, "interpreter": hex(HEAP), "kind": "heap", "lists": told_lists, "unreadable": unreadable}
+    return {"classes": list(classes), "collecting": is_collecting, "interpreter": hex(HEAP), "kind": "heap", "lists": told_lists,
+            "unreadable": unreadable}
 
 
 def trees() -> Iterator[Row]:
@@ -342,8 +373,9 @@ def trees() -> Iterator[Row]:
     one, other, lists = made.klass("Order", 48), made.heap_class('R"', "shop"), made.klass("L", 40, 0, (TRACKED, LIST))
     for name, it in (("youngest", one), ("middle", other), ("youngest", one), ("permanent", NOWHERE), ("oldest", lists)):
         made.add(name, it, 0, 0, 8)
-    rows_of = [class_tree(one, "Order", 2, 128), class_tree(lists, "L", 1, 56, 64), class_tree(other, "shop.R\\u{22}", 1, 48), class_tree(NOWHERE, None, 1, 0, 0, 1)]
-    yield json_row("classes", made, [heap_tree(rows_of, youngest=(2, whole), middle=(1, whole), oldest=(1, whole), permanent=(1, whole))])
+    counted_classes = [class_tree(one, "Order", 2, 128), class_tree(lists, "L", 1, 56, 64), class_tree(other, "shop.R\\u{22}", 1, 48),
+                       class_tree(NOWHERE, None, 1, 0, 0, 1)]
+    yield json_row("classes", made, [heap_tree(counted_classes, youngest=(2, whole), middle=(1, whole), oldest=(1, whole), permanent=(1, whole))])
     made, classes = of_classes(41)
     yield json_row("41 classes", made, [heap_tree([class_tree(it, f"C{at}", 1, 48) for at, it in enumerate(classes)], oldest=(41, whole))])
     made, (first, second, _) = of_three("youngest")
