@@ -4,7 +4,7 @@ import struct
 from typing import Dict, List, Sequence, Tuple
 
 from made import EXAMPLE, Segment, core_file, edited
-from rows_salvage import NAMED, runtime
+from rows_salvage import NAMED, RUNTIME, runtime
 from small_core import HEAP, PATH, bss, files_of, heap, mapped
 
 LAYOUT = edited(EXAMPLE, klass="{size=296, name=24, flags=168, dict_offset=288}")
@@ -133,6 +133,26 @@ class MadeHeap:
         parts.append(Segment(HEAP + begin, data[begin:], 6))
         core = core_file([*parts, *more, mapped(of_minor(PATH.decode(), self.minor).encode()), bss(0, 0), runtime(*interpreters)])
         return {**files_of(core, layout_of_minor(self.minor), NAMED), "records": of_minor(RECORDS.decode(), self.minor).encode()}
+
+
+# ---- the runtime's
+
+RUNTIME_FIRSTS = {7: (352, 48, 512, 32), 8: (368, 24, 448, 16)}
+"""Where the first head stands in the runtime, how far the next one is behind it, where the permanent one stands, and how many bytes an object's
+head has, by minor versions."""
+
+
+def of_runtime(minor: int, program: bytes = NAMED) -> Dict[str, bytes]:
+    """The files of a core of 3.7 or 3.8, with an object in the youngest of the runtime's lists."""
+    made = MadeHeap()
+    objects, (first, apart, permanent, size) = made.objects, RUNTIME_FIRSTS[minor]
+    klass, member, data = made.klass("T"), objects.free(), bytearray(runtime(HEAP).data.ljust(648, b"\0"))
+    for place in (first, first + apart, first + 2 * apart, permanent):
+        struct.pack_into("<2Q", data, place, RUNTIME + place, RUNTIME + place)
+    struct.pack_into("<2Q", data, first, member, member)
+    objects.write(member, struct.pack("<2Q", RUNTIME + first, RUNTIME + first).ljust(size, b"\0") + struct.pack("<2Q", 1, klass))
+    core = core_file([objects.segment(6), mapped(of_minor(PATH.decode(), minor).encode()), bss(0, 0), Segment(RUNTIME, bytes(data), 6)])
+    return {**files_of(core, layout_of_minor(minor), program), "records": of_minor(RECORDS.decode(), minor).encode()}
 
 
 # ---- heaps that ask for much

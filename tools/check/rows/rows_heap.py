@@ -4,9 +4,9 @@ import json
 from typing import Callable, Dict, Iterator, List, Optional, Sequence, Tuple
 
 from made_heaps import BYTES, COLLECTING, DICTS, FLAGS, HEADS, INTEGER, LIST, NOWHERE, QUALNAME, RECORDS, TRACKED, TUPLE, TYPE
-from made_heaps import MadeHeap, of_minor
+from made_heaps import MadeHeap, of_minor, of_runtime
 from row import Row
-from rows_salvage import GOOD, broken_tree, salvage
+from rows_salvage import GOOD, STRIPPED, broken_tree, salvage
 from small_core import HEAP, TEXT
 
 HEAPS = f"{GOOD} --records records --heap"
@@ -17,7 +17,7 @@ GENERATIONS = {"youngest": "generation 0", "middle": "generation 1", "oldest": "
 
 def rows() -> Iterator[Row]:
     """All of them."""
-    for part in (counted, sizes, keys, names, lost, ends, collecting, many, several, checked, untold, trees):
+    for part in (counted, sizes, keys, names, lost, ends, collecting, many, several, checked, of_runtimes, untold, trees):
         yield from part()
 
 
@@ -314,6 +314,17 @@ def checked() -> Iterator[Row]:
     made.objects.word(at, at)
     made.objects.word(at + 8, NOWHERE)
     yield salvage("heap: 3.13: what a head leads to does not lead back", words, made.files(), text + head().split(": ")[0] + f": no list at 0x{at:x}\n")
+
+
+def of_runtimes() -> Iterator[Row]:
+    """3.7 and 3.8, whose lists the runtime has."""
+    counts = "Heap of the runtime: 1, 0, 0 and 0 objects\n"
+    for minor, size in ((7, 64), (8, 48)):
+        words, text = of_minor(HEAPS, minor), of_minor(TEXT, minor)
+        yield salvage(f"heap: 3.{minor}", words, of_runtime(minor), text + counts + line(1, size, "T"))
+    stripped = of_runtime(8, STRIPPED)
+    yield salvage("heap: 3.8: no symbol", words, stripped, text + "Heap of the runtime: no symbol tells where it is\n")
+    yield salvage("heap: JSON: 3.8: no symbol", f"{words} -j", stripped, of_minor(tree_of([{"interpreter": None, "kind": "no runtime"}]), 8))
 
 
 def without(group: bytes) -> bytes:
