@@ -250,13 +250,18 @@ def judged() -> Iterator[Case]:
 
 
 def heaps() -> Iterator[Case]:
-    """Those of `pysalvage --heap`, with as many members of a list as a core of 4 MB has."""
-    for words, form in ((HEAPS, "text"), (f"{HEAPS} -j", "JSON")):
-        yield Case(f"`--heap`: 131,072 objects of one class, as {form}", words, lambda: of_members(131_072, 32), "0")
-        yield Case(f"`--heap`: 262,144 objects of a class each, as {form}", words, lambda: of_members(262_144, 16), "0")
-        yield Case(f"`--heap`: 524,288 objects of a class each, 8 bytes apart, as {form}", words, lambda: of_woven_members(524_288), "0")
-    yield Case("`--heap`: 2048 classes that have one dict of 4096 names of a character", HEAPS, lambda: of_long_dicts(2048, 1), "0")
-    yield Case("`--heap`: the same, of 4095 characters", HEAPS, lambda: of_long_dicts(2048, 4095), "0")
+    """Those of `pysalvage --heap`: as many members of a list as a core of 4 MB has, and names of classes that are looked for in long dicts."""
+    texts = lambda what, files, **bounds: Case(f"`--heap`: {what}", HEAPS, files, "0", **bounds)
+    trees = lambda what, files, **bounds: Case(f"`--heap -j`: {what}", f"{HEAPS} -j", files, "0", **bounds)
+    one, other, woven = lambda: of_members(131_072, 32), lambda: of_members(262_144, 16), lambda: of_woven_members(524_288)
+    yield texts("131,072 objects of one class", one)
+    yield trees("131,072 objects of one class", one)
+    yield texts("262,144 objects of a class each", other, memory=100)
+    yield trees("262,144 objects of a class each", other, memory=500)
+    yield texts("524,288 objects of a class each, 8 bytes apart", woven, memory=200)
+    yield trees("524,288 objects of a class each, 8 bytes apart", woven, memory=1000)
+    yield texts("2048 classes that have one dict of 4096 names of a character", lambda: of_long_dicts(2048, 1))
+    yield texts("2048 classes that have one dict of 4096 names of 4095 characters", lambda: of_long_dicts(2048, 4095), seconds=TEN)
 
 
 def apart() -> Iterator[Case]:
@@ -277,6 +282,7 @@ def shared() -> Iterator[Case]:
     for words in (GOOD, SALVAGE):
         yield Case("a bss of 1 GB, by 1000 segments over the same 1 MB", words,
                    lambda: files_of(of_bss(), program=image_of_bss(SHARED * MANY)))
+    yield Case("`--heap`: 256 classes that have one dict of 4096 names of 4095 wide characters", HEAPS, lambda: of_long_dicts(256, 4095, True))
 
 
 def limited(seconds: int, memory: int) -> None:

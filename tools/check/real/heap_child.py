@@ -54,8 +54,9 @@ def census(classes):
 def told(kind):
     """What is said."""
     rows = census((Slotted, Pair, Rows, Table, Plain, Ring, dict, list))
-    # (its address lets a copy of the core be torn at its head)
-    return json.dumps({"kind": kind, "classes": rows, "all": len(gc.get_objects()), "middle": id(KEPT[len(KEPT) // 2])})
+    # (its address lets a copy of the core be torn at its head. 3.12 has frozen some objects before it runs a program.)
+    return json.dumps({"kind": kind, "classes": rows, "all": len(gc.get_objects()), "frozen": gc.get_freeze_count(),
+                       "middle": id(KEPT[len(KEPT) // 2])})
 
 
 def dies(phase, info):

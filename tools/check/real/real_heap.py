@@ -85,7 +85,7 @@ def check_counts(heap: Tree, wanted: Tree, kind: str) -> int:
     listed = sum(it["objects"] for it in heap["lists"].values())
     if total != listed:
         raise Failure(f"{kind}: {listed} objects in lists, and {total} counted")
-    known = listed - (heap["lists"]["permanent"]["objects"] if kind != "frozen" else 0)
+    known = listed - (heap["lists"]["permanent"]["objects"] if kind != "frozen" else wanted["frozen"])
     if abs(known - wanted["all"]) > MOST_OTHERS:
         raise Failure(f"{kind}: {known} objects are tracked, and the process had {wanted['all']}")
     return listed

@@ -3,7 +3,7 @@
 import struct
 from typing import Dict, List, Sequence, Tuple
 
-from made import EXAMPLE, Segment, core_file, edited
+from made import EXAMPLE, Objects, Segment, core_file, edited
 from rows_salvage import NAMED, RUNTIME, runtime
 from small_core import HEAP, PATH, bss, files_of, heap, mapped
 
@@ -146,7 +146,7 @@ def of_runtime(minor: int, program: bytes = NAMED) -> Dict[str, bytes]:
     """The files of a core of 3.7 or 3.8, with an object in the youngest of the runtime's lists."""
     made = MadeHeap()
     objects, (first, apart, permanent, size) = made.objects, RUNTIME_FIRSTS[minor]
-    klass, member, data = made.klass("T"), objects.free(), bytearray(runtime(HEAP).data.ljust(648, b"\0"))
+    klass, member, data = made.klass("T"), objects.free(), bytearray(runtime(HEAP).data.ljust(1408, b"\0"))
     for place in (first, first + apart, first + 2 * apart, permanent):
         struct.pack_into("<2Q", data, place, RUNTIME + place, RUNTIME + place)
     struct.pack_into("<2Q", data, first, member, member)
@@ -189,11 +189,20 @@ def led_to(made: MadeHeap, first: int, last: int, maps: Sequence[Segment]) -> Di
     return made.files(more=maps)
 
 
-def of_long_dicts(classes: int, length: int) -> Dict[str, bytes]:
-    """A core with so many classes of the heap, of whose modules none is found: all have one dict, whose 4,096 keys are one text of this length."""
+def wide_text(objects: Objects, length: int, klass: int) -> int:
+    """A text of so many characters of four bytes."""
+    places = objects.group("string")
+    at = objects.record("string", None, length=length, state=4 << places["kind_shift"] | 1 << places["compact_bit"])
+    objects.write(at + places["long_at"], "\U0001f40d".encode("utf-32-le") * length)
+    return objects.of_class(at, klass)
+
+
+def of_long_dicts(classes: int, length: int, wide: bool = False) -> Dict[str, bytes]:
+    """A core with so many classes of the heap, of whose modules none is found: all have one dict, whose 4,096 keys are one text of so many
+    characters, of one byte or of four."""
     made = MadeHeap()
     objects = made.objects
-    key = objects.text("k" * length, klass=made.text_class())
+    key = wide_text(objects, length, made.text_class()) if wide else objects.text("k" * length, klass=made.text_class())
     keys = objects.record("keys", None, used=4096, slots=8192)
     objects.write(keys + 40 + 2 * 8192, struct.pack("<3Q", 0, key, key) * 4096)
     # (as flags its address says that the class is one of the heap)

@@ -307,7 +307,8 @@ def checked() -> Iterator[Row]:
         made.objects.word(at, aside)
         made.objects.word(at + 8, aside)
         yield salvage(f"heap: 3.13: no list for {GENERATIONS[name]}", words, made.files(), text + head().split(": ")[0] + f": no list at 0x{at:x}\n")
-    yield salvage("heap: JSON: 3.13: no list", f"{words} -j", made.files(), of_minor(tree_of([{"interpreter": hex(HEAP), "kind": "no lists"}]), 13))
+    tree = of_minor(tree_of([{"interpreter": hex(HEAP), "kind": "no lists"}]), 13).replace('"searched": false', '"searched": true')
+    yield salvage("heap: JSON: 3.13: no list", f"{words} -j", made.files(), tree)
     made.objects.word(aside, at)
     yield salvage("heap: 3.13: what a head names as before it leads to it", words, made.files(),
                   text + head() + f"    the permanent generation is torn at 0x{aside:x}\n")
