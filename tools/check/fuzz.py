@@ -233,8 +233,13 @@ def sections_asked(words: Sequence[str]) -> Sequence[str]:
 SECTIONS = ("--signal", "--registers", "--missing", "--check-layout", "--names", "--tasks", "--exceptions", "--waits", "--native", "--heap")
 """The flags of all sections."""
 
-OWN_TEXTS = ("--exceptions", "--native", "--heap")
+OWN_TEXTS = ("--exceptions", "--native")
 """Those whose text isn't made again from the JSON here."""
+
+
+def has_own_text(tree: Dict[str, Any], sections: Sequence[str]) -> bool:
+    """Whether some of the text can't be made from the JSON: that of such a section, or where a list is looked for that is none."""
+    return bool(set(OWN_TEXTS) & set(sections)) or any(it["kind"] == "no lists" for it in tree["heap"] or ())
 
 
 def made_up_number(run: Run, tree: Dict[str, Any]) -> Optional[str]:
@@ -259,9 +264,9 @@ def fault_of_salvage(run: Run, out: bytes) -> Optional[str]:
         return f"status {answer.status} with -j: {answer.said!r}"
     tree = tree_of(answer.out, limit, sections)
     made_up = made_up_number(run, tree)
-    if made_up or set(OWN_TEXTS) & set(sections):
+    if made_up or has_own_text(tree, sections):
         return made_up
-    text = text_of(tree, core_named(run.words))
+    text = text_of(tree, core_named(run.words), sections)
     return None if out == text.encode() else "the text isn't that of its JSON"
 
 

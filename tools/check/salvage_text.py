@@ -7,7 +7,7 @@ from typing import Any, Collection, Dict, Iterable, List, Optional, Sequence
 
 import rooms  # noqa: F401
 from child_cores import Failure
-from section_text import check_sections, layout_lines, name_lines, register_lines, signal_lines, wait_lines
+from section_text import check_sections, heap_lines, layout_lines, name_lines, register_lines, signal_lines, wait_lines
 from tasks_text import task_lines
 from pystacks_tool.ask.salvage import frames_end, locals_fault, threads_end, unreadable, why_of
 
@@ -266,8 +266,8 @@ def lines_of_interpreter(tree: Tree, is_one_of_several: bool) -> List[str]:
     return lines + [line for it in tree["threads"] for line in lines_of_thread(it)]
 
 
-def text_of(tree: Tree, core: str) -> str:
-    """The text of a core of this name."""
+def text_of(tree: Tree, core: str, sections: Collection[str] = ()) -> str:
+    """The text of a core of this name, of which these sections were asked for."""
     signal, process, interpreters = tree["signal"], tree["process"], tree["interpreters"]
     lines = [] if signal is None else [f"Signal {signal}: {escaped(core, False)}"]
     lines += signal_lines(tree)
@@ -280,6 +280,7 @@ def text_of(tree: Tree, core: str) -> str:
     lines += [front + escaped(name, False) for front, name in name_lines(tree)]
     lines += task_lines(tree["tasks"] or [])
     lines += wait_lines(tree["waits"] or [])
+    lines += heap_lines(tree["heap"], "--heap" in sections)
     lines += register_lines(tree)
     lines += layout_lines(tree)
     left_out = tree.get("values_left_out", 0)

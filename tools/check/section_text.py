@@ -273,6 +273,45 @@ def check_classes(heap: Tree) -> None:
         raise Failure(f"{objects} objects are counted, and others are in the lists")
 
 
+def heap_lines(heaps: Optional[Sequence[Tree]], is_asked: bool) -> List[str]:
+    """The lines of heaps. (Of a list that is none the JSON doesn't tell where it is looked for.)"""
+    if heaps is None:
+        return ["Heap: not described for this version"] if is_asked else []
+    return [line for it in heaps for line in lines_of_heap(it)]
+
+
+LISTS = (("youngest", "generation 0"), ("middle", "generation 1"), ("oldest", "generation 2"), ("permanent", "the permanent generation"))
+
+LIST_END_WORDS = {"torn": "is torn at", "unreadable": "can't be read at", "cut": "has more, from"}
+
+CLASSES = 40
+"""How many classes have a line."""
+
+
+def lines_of_heap(heap: Tree) -> List[str]:
+    """The lines of a heap."""
+    owner = "runtime" if heap["interpreter"] is None else f"interpreter at {heap['interpreter']}"
+    if heap["kind"] != "heap":
+        return [f"Heap of the {owner}: no symbol tells where it is"]
+    youngest, middle, oldest, permanent = (heap["lists"][key]["objects"] for key, _ in LISTS)
+    lines = [f"Heap of the {owner}: {youngest}, {middle}, {oldest} and {permanent} objects"]
+    lines += ["    a collection runs"] if heap["collecting"] else []
+    for end, name in ((heap["lists"][key]["end"], name) for key, name in LISTS):
+        words = LIST_END_WORDS.get(end["kind"])
+        lines += [f"    {name} {words} {end['address']}{' on' if end['kind'] == 'cut' else ''}"] if words else []
+    lines += [f"    {heap['unreadable']} objects whose class can't be read"] if heap["unreadable"] else []
+    lines += [line_of_class(it) for it in heap["classes"][:CLASSES]]
+    more = len(heap["classes"]) - CLASSES
+    return lines + ([f"    and {more} more classes"] if more > 0 else [])
+
+
+def line_of_class(it: Tree) -> str:
+    """The line of a class."""
+    blocks = f" and {it['more']} in other blocks" if it["more"] else ""
+    unknown = f", {it['unknown']} of unknown size" if it["unknown"] else ""
+    return f"    {it['objects']} objects, {it['bytes']} bytes{blocks}{unknown}: {'?' if it['name'] is None else it['name']}"
+
+
 def wait_lines(waits: Sequence[Tree]) -> List[str]:
     """The lines of what threads wait for, where it is known."""
     words = {"gil": "the GIL", "lock": "Lock", "rlock": "RLock", "queue": "SimpleQueue"}
