@@ -442,12 +442,13 @@ def trees() -> Iterator[Row]:
               "thread_id": 0x7F00}
     interpreter = {"address": hex(HEAP), "lock": {"holder": 0, "kind": "read"}, "searched": False, "threads": [thread],
                    "threads_end": {"kind": "whole"}}
-    tree = {"exceptions": None, "interpreters": [interpreter], "layout_check": None, "missing": None, "more": False, "names": None,
+    tree = {"exceptions": None, "heap": None, "interpreters": [interpreter], "layout_check": None, "missing": None, "more": False, "names": None,
             "native": None, "process": {"arguments": "p\n", "pid": 4}, "registers": None, "search_ended": None, "signal": 11, "signal_info": None, "stacks": None,
-            "tasks": None, "version": "3.9.0", "heap": None, "version_by_names": False, "waits": None}
+            "tasks": None, "version": "3.9.0", "version_by_names": False, "waits": None}
     notes = [status_record(11, 4, 0x7F00), process_record(4, b"p", b"p\n")]
     text = lambda it: json.dumps(it, indent=2, ensure_ascii=False) + "\n"
     yield salvage("JSON", f"{GOOD} -j", named(heap(), notes=notes), text(tree))
+    yield salvage("JSON of a heap that isn't described", f"{GOOD} -j --heap", named(heap(), notes=notes), text(tree))
     below = heap()
     lined(-9)(below)
     unmarked = {**interpreter, "threads": [{**thread, "crashed": False}]}
@@ -536,9 +537,9 @@ def broken_tree(back: int, blocks: Sequence[int]) -> Dict[str, object]:
               "thread_id": 0x7F00}
     interpreter = {"address": hex(HEAP), "lock": {"holder": 0, "kind": "read"}, "searched": False, "threads": [thread],
                    "threads_end": {"kind": "whole"}}
-    return {"exceptions": None, "interpreters": [interpreter], "layout_check": None, **missed_object(blocks), "more": False, "names": None,
+    return {"exceptions": None, "heap": None, "interpreters": [interpreter], "layout_check": None, **missed_object(blocks), "more": False, "names": None,
             "native": None, "process": None, "registers": None, "search_ended": None, "signal": None, "signal_info": None, "stacks": None, "tasks": None,
-            "version": "3.9.0", "heap": None, "version_by_names": False, "waits": None}
+            "version": "3.9.0", "version_by_names": False, "waits": None}
 
 
 def missed() -> Iterator[Row]:

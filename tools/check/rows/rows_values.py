@@ -179,7 +179,7 @@ def trees() -> Iterator[Row]:
               "thread_id": 0x7F00}
     interpreter = {"address": hex(HEAP), "lock": {"holder": 0, "kind": "read"}, "searched": False, "threads": [thread],
                    "threads_end": {"kind": "whole"}}
-    tree = {"exceptions": None, "interpreters": [interpreter], "layout_check": None, "missing": None, "more": False, "names": None,
+    tree = {"exceptions": None, "heap": None, "interpreters": [interpreter], "layout_check": None, "missing": None, "more": False, "names": None,
             "native": None, "process": None, "registers": None, "search_ended": None, "signal": None, "signal_info": None, "stacks": None, "tasks": None,
-            "values_left_out": 0, "version": "3.9.0", "heap": None, "version_by_names": False, "waits": None}
+            "values_left_out": 0, "version": "3.9.0", "version_by_names": False, "waits": None}
     yield salvage("value: JSON", f"{GOOD} -lj", named(objects), json.dumps(tree, indent=2) + "\n")
