@@ -100,6 +100,18 @@ class Heaps(unittest.TestCase):
         self.assertIn("m.&lt;b&gt;", page)
         self.assertIn("a&lt;b (1)", page)
 
+    def test_long_page(self):
+        """A page has rows of 2,048 classes, and says how many more there are; what grew has its head."""
+        rows = [one_class(f"m.C{it}", 1, 5000 - it, unknown=it == 0) for it in range(2050)]
+        report = Report((Interpreter((), 0x10),), "3.11.7", 6, core="core", heaps=heaps_of([heap(*rows)]), growth=(Growth("m.<A>", 1, 2),))
+        page = report_page(report, Style())
+        self.assertIn("m.C0 (1 of unknown size)", page)
+        self.assertIn("m.C2047<", page)
+        self.assertNotIn("m.C2048<", page)
+        self.assertIn("... 2 more classes", page)
+        self.assertIn("Grown since the earlier core: +1 objects, +2 bytes", page)
+        self.assertIn("m.&lt;A&gt;", page)
+
 
 def table_of(*files):
     """A note with a file table: start, end and name of each mapping."""
