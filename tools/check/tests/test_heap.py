@@ -55,6 +55,7 @@ class Heaps(unittest.TestCase):
         found = shown(heap(kind="torn", collecting=True, unreadable=5))
         self.assertEqual(found[2:], ["    ... a collection ran", "    ... generation 2 is torn at 0xbad0", "    ... 5 objects whose class can't be read"])
         self.assertIn("    ... generation 2 has more, from 0xbad0", shown(heap(kind="cut")))
+        self.assertIn("    ... 3 more classes aren't told", shown({**heap(), "more_classes": 3}))
 
     def test_many(self):
         """Forty classes have a line, and the others one."""

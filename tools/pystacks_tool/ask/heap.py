@@ -32,6 +32,8 @@ def marks_of(tree: Tree) -> Tuple[str, ...]:
         end = tree["lists"][key]["end"]
         if end["kind"] != "whole":
             marks.append(f"{name} {ENDS[end['kind']]} {end['address']}")
+    if tree.get("more_classes"):
+        marks.append(f"{tree['more_classes']:,} more classes aren't told")
     if tree["unreadable"]:
         marks.append(f"{tree['unreadable']:,} objects whose class can't be read")
     return tuple(marks)
