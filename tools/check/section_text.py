@@ -252,7 +252,7 @@ def check_heap(tree: Tree, is_asked: bool) -> None:
         if it["kind"] != "heap":
             check_one_of(it, {"no lists": ("interpreter",), "no runtime": ("interpreter",)})
             continue
-        check_keys(it, "classes", "collecting", "interpreter", "kind", "lists", "unreadable")
+        check_keys(it, "classes", "collecting", "interpreter", "kind", "lists", "more_classes", "unreadable")
         check_keys(it["lists"], "middle", "oldest", "permanent", "youngest")
         for one in it["lists"].values():
             check_keys(one, "end", "objects")
@@ -268,8 +268,9 @@ def check_classes(heap: Tree) -> None:
     keys = [(-it["bytes"], int(it["address"], 16)) for it in rows]
     if keys != sorted(set(keys)) or len({it["address"] for it in rows}) != len(rows):
         raise Failure("classes of a heap aren't in order, or stand twice")
-    objects = sum(it["objects"] for it in rows) + heap["unreadable"]
-    if objects != sum(it["objects"] for it in heap["lists"].values()):
+    objects = sum(it["objects"] for it in rows) + heap["unreadable"] + heap["more_classes"]
+    listed = sum(it["objects"] for it in heap["lists"].values())
+    if objects > listed or not heap["more_classes"] and objects != listed:
         raise Failure(f"{objects} objects are counted, and others are in the lists")
 
 

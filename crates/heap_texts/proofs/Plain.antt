@@ -1,6 +1,6 @@
 -- The tree of heaps has no float.
 use Rattle.std.proofs.Common.{◌≡◌, ℕ, Bool, false, List, [], ◌∷◌, Option, Some, None, refl, ap, ◌∙◌}
-use Rattle.std.specs.Prelude.{◌||◌}
+use Rattle.std.specs.Prelude.{◌||◌, take}
 use Rattle.serde_json.specs.Data.{Data}
 use Rattle.serde_json.specs.Written.{has_float}
 use Rattle.gc_lists.specs.declared.turn.ListEnd.{ListEnd}
@@ -16,7 +16,7 @@ use Rattle.py_heap.specs.declared.heap.Heaps.TheVariants.{NotDescribed, OfRuntim
 use Rattle.py_heap.specs.declared.heap.InterpreterHeap.{InterpreterHeap}
 use Rattle.heap_texts.specs.Trees.{class_tree, classes_tree, collecting_tree, end_tree, heap_tree, heaps_tree}
 use Rattle.heap_texts.specs.Trees.{interpreter_tree, interpreters_tree, list_tree, lists_tree, name_tree, owner_tree}
-use Rattle.heap_texts.specs.Trees.{own_tree, told_tree}
+use Rattle.heap_texts.specs.Trees.{most_classes, own_tree, told_tree}
 
 end : (e : ListEnd) → has_float (end_tree e) ≡ false
 end Whole = refl
@@ -50,8 +50,8 @@ owner None = refl
 owner (Some o) = refl
 
 heap : (o : Option ℕ) (h : Heap) → has_float (heap_tree (owner_tree o) h) ≡ false
-heap o h = λ i. classes h.classes.items i || (collecting h.collecting i || (owner o i || (false || (lists h i
-    || (false || false)))))
+heap o h = λ i. classes (take most_classes h.classes.items) i || (collecting h.collecting i || (owner o i || (false
+    || (lists h i || (false || (false || false))))))
 
 told : (o : Option ℕ) (t : HeapTold) → has_float (told_tree o t) ≡ false
 told o (NoLists head) = λ i. owner o i || (false || false)

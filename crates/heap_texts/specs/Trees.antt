@@ -1,5 +1,5 @@
 -- The JSON of the heaps of a process. The keys of an object stand in the order of their bytes.
-use Rattle.std.specs.Prelude.{ℕ, ◌++◌, Bool, false, List, [], ◌∷◌, map, Option, Some, None, codes}
+use Rattle.std.specs.Prelude.{ℕ, ◌-◌, ◌++◌, Bool, false, List, [], ◌∷◌, length, map, take, Option, Some, None, codes}
 use Rattle.std.specs.Fmt.{digits}
 use Rattle.serde_json.specs.Data.{Data, array, boolean, member, no_members, null, number, object, string, unsigned}
 use Rattle.serde_json.specs.View.{items_of}
@@ -63,14 +63,19 @@ abbrev pub collecting_tree : Option Bool → Data
 collecting_tree None = null
 collecting_tree (Some collecting) = boolean collecting
 
+-- how many classes are told
+abbrev pub most_classes : ℕ
+most_classes = 2048
+
 abbrev pub heap_tree : Data → Heap → Data
 heap_tree owner h = object (
-    member (codes "classes") (classes_tree h.classes.items) (
+    member (codes "classes") (classes_tree (take most_classes h.classes.items)) (
     member (codes "collecting") (collecting_tree h.collecting) (
     member (codes "interpreter") owner (
     member (codes "kind") (string (codes "heap")) (
     member (codes "lists") (lists_tree h) (
-    member (codes "unreadable") (number (unsigned h.unreadable)) no_members))))))
+    member (codes "more_classes") (number (unsigned (length h.classes.items - most_classes))) (
+    member (codes "unreadable") (number (unsigned h.unreadable)) no_members)))))))
 
 abbrev pub word_tree : Data → List ℕ → Data
 word_tree owner kind = object (

@@ -4,6 +4,7 @@
 //! the end of its line, so that none forges one.
 #![tactic(auto)]
 
+mod firsts;
 mod lines;
 mod text;
 mod tree;

@@ -1,8 +1,9 @@
 //! The lines of the heaps of a process.
-ghost use Rattle.std.specs.Prelude.{◌≡◌, ◌++◌, OnOk, string_bytes, take};
+ghost use Rattle.std.specs.Prelude.{◌≡◌, ◌++◌, OnOk, string_bytes};
 ghost use Rattle.heap_texts.specs.Text.{classes_text, heap_text, heaps_text, interpreter_text, interpreters_text};
-ghost use Rattle.heap_texts.specs.Text.{lists_text, most_lines, none_line, runtime_text, told_text};
+ghost use Rattle.heap_texts.specs.Text.{lists_text, none_line, runtime_text, told_text};
 
+use crate::firsts::first_of;
 use crate::lines::{
     push_class, push_collecting, push_counts, push_lead, push_list, push_lost, push_rest,
 };
@@ -32,16 +33,6 @@ fn push_classes(alloc: Global, text: &mut String, classes: &[HeapClass]) -> Resu
     Ok(())
 }
 
-/// The first of some classes, which have a line.
-fn first_of(classes: &[HeapClass]) -> &[HeapClass]
-    ensures { result.now ≡ take most_lines classes.now }
-{
-    if classes.len() <= MOST_LINES {
-        return classes;
-    }
-    &classes[..MOST_LINES]
-}
-
 /// What a heap holds.
 fn push_heap(alloc: Global, text: &mut String, heap: &Heap) -> Result<(), AllocError>
     ensures { OnOk result (string_bytes text.new ≡ string_bytes text.old ++ heap_text heap.now) }
@@ -50,7 +41,7 @@ fn push_heap(alloc: Global, text: &mut String, heap: &Heap) -> Result<(), AllocE
     push_collecting(text, heap.collecting)?;
     push_lists(text, heap)?;
     push_lost(text, heap.unreadable)?;
-    push_classes(alloc, text, first_of(&heap.classes))?;
+    push_classes(alloc, text, first_of(&heap.classes, MOST_LINES))?;
     push_rest(text, heap.classes.len())
 }
 

@@ -5,12 +5,16 @@ ghost use Rattle.heap_texts.specs.Trees.{address_text, class_tree, classes_tree,
 ghost use Rattle.heap_texts.specs.Trees.{heaps_tree, interpreter_tree, interpreters_tree, list_tree, lists_tree, name_tree};
 ghost use Rattle.heap_texts.specs.Trees.{owner_tree, place_tree, runtime_tree, told_tree, word_tree};
 
+use crate::firsts::{first_of, left_of};
 use exception_texts::push_named;
 use gc_lists::ListEnd;
 use py_exceptions::ClassName;
 use py_heap::{Generation, Heap, HeapClass, HeapTold, Heaps, InterpreterHeap};
 use serde_json::{Value, json};
 use std::alloc::{AllocError, Global};
+
+/// How many classes are told of a heap.
+const MOST_CLASSES: usize = 2048;
 
 /// An address: `0x` and lower-case hexadecimal digits.
 fn address_text(alloc: Global, address: u64) -> Result<String, AllocError>
@@ -120,7 +124,8 @@ fn collecting_value(collecting: Option<bool>) -> Value
 fn heap_value(alloc: Global, owner: Value, heap: &Heap) -> Result<Value, AllocError>
     ensures { IfOk result (λ value. view value ≡ heap_tree (view owner) heap.now) }
 {
-    let classes = classes_value(alloc, &heap.classes)?;
+    let classes = classes_value(alloc, first_of(&heap.classes, MOST_CLASSES))?;
+    let left = left_of(&heap.classes, MOST_CLASSES);
     let collecting = collecting_value(heap.collecting);
     let lists = lists_value(alloc, heap)?;
     json!(in alloc; {
@@ -129,6 +134,7 @@ fn heap_value(alloc: Global, owner: Value, heap: &Heap) -> Result<Value, AllocEr
         "interpreter": owner,
         "kind": "heap",
         "lists": lists,
+        "more_classes": left,
         "unreadable": heap.unreadable
     })
 }
@@ -197,7 +203,7 @@ fn runtime_value(alloc: Global, told: &Option<HeapTold>) -> Result<Value, AllocE
 /// Its `kind` is `heap`, `no lists`, or `no runtime` where no symbol tells where the runtime's record is. A heap has its
 /// `lists` (`youngest`, `middle`, `oldest`, `permanent`), each with how many `objects` it has and how it ends (`kind`
 /// `whole`, `torn`, `unreadable` or `cut`, the last three with an `address`); whether a collection runs or null; its
-/// `classes`, most bytes first, each with its `address`, `name` or null, `objects`, the `bytes` of their own blocks, those of
+/// first 2,048 `classes`, most bytes first, how many more there are (`more_classes`), each with its `address`, `name` or null, `objects`, the `bytes` of their own blocks, those of
 /// lists' items and dicts' keys (`more`), and of how many of them the size is `unknown`; and of how many objects the class is
 /// `unreadable`.
 ///

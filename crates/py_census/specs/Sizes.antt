@@ -1,6 +1,8 @@
--- How many bytes the own block of an object has, as `sys.getsizeof` has it for the objects of a class that keeps no
--- other blocks: `_PySys_GetSizeOf` of Python/sysmodule.c, `object___sizeof___impl` of Objects/typeobject.c,
--- `long___sizeof___impl` of Objects/longobject.c. A class's flags (Include/object.h) say whether an object of it has a
+-- How many bytes the own block of an object has, without the values of attributes that stand in it from 3.13 on (bit 2
+-- of a class's flags, `Py_TPFLAGS_INLINE_VALUES`): `_PySys_GetSizeOf` of Python/sysmodule.c, `object___sizeof___impl` of
+-- Objects/typeobject.c, `long___sizeof___impl` of Objects/longobject.c. `sys.getsizeof` has the same of most classes that
+-- keep no other blocks; of types it has their cached keys too, and up to 3.11 it leaves out where an integer of a subclass
+-- has its dict. A class's flags (Include/object.h) say whether an object of it has a
 -- count of items: `Py_TPFLAGS_LONG_SUBCLASS` (bit 24), `Py_TPFLAGS_TUPLE_SUBCLASS` (26), `Py_TPFLAGS_BYTES_SUBCLASS`
 -- (27) and `Py_TPFLAGS_TYPE_SUBCLASS` (31); that none else has one is this project's rule. A size of 2^64 bytes or more
 -- is none.

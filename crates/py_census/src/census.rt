@@ -21,7 +21,8 @@ pub struct CountedClass {
     pub class: u64,
     /// How many objects of it there are.
     pub objects: u64,
-    /// How many bytes their own blocks have in all, of those whose size is known.
+    /// How many bytes their own blocks have in all, of those whose size is known, without the values of attributes that
+    /// stand in them from 3.13 on.
     pub bytes: u64,
     /// How many bytes they have beside these in blocks of their own, as far as that is known: of lists the items that
     /// they have room for, of dicts the keys that no other object has.

@@ -16,8 +16,8 @@ pub struct Generation {
 /// A class of which there are objects.
 #[derive(Debug, Drop)]
 pub struct HeapClass {
-    /// Its address, how many objects there are of it, how many bytes their own blocks have, and how many the blocks of their own that lists and dicts
-    /// have beside.
+    /// Its address, how many objects there are of it, how many bytes their own blocks have, and how many the other
+    /// blocks of lists and dicts.
     pub counted: CountedClass,
     /// Its name; none where it can't be read, and of classes behind the first 2,048.
     pub name: Option<ClassName>,
@@ -26,7 +26,8 @@ pub struct HeapClass {
 /// The objects that the collector tracks.
 #[derive(Debug, Drop)]
 pub struct Heap {
-    /// Whether a collection runs; none where that is not in memory. In one a list may be torn, as its links hold counts.
+    /// Whether a collection runs; none where that is not in memory. In one a list may be torn, as its links hold
+    /// counts.
     pub collecting: Option<bool>,
     /// Generation 0.
     pub youngest: Generation,
@@ -63,10 +64,11 @@ pub struct InterpreterHeap {
 /// The heaps of a process.
 #[derive(Debug, Drop)]
 pub enum Heaps {
-    /// It is not described where the collector's lists, the sizes of objects or the names of classes of the version stand.
+    /// It is not described where the collector's lists, the sizes of objects or the names of classes of the version
+    /// stand.
     NotDescribed,
-    /// Up to 3.8: the lists of the runtime, in which the objects of all interpreters are; none where no symbol tells the
-    /// address of its record.
+    /// Up to 3.8: the lists of the runtime, in which the objects of all interpreters are; none where no symbol tells
+    /// the address of its record.
     OfRuntime(Option<HeapTold>),
     /// From 3.9 on: those of each interpreter that is shown, in order.
     OfInterpreters(Vec<InterpreterHeap>),

@@ -98,7 +98,7 @@ def body(text: str) -> List[str]:
 
 def check_same(core: Path, words: argparse.Namespace, kept: Path) -> str:
     """Fails where the tool's text isn't that of `pysalvage`, over the core as the tool prepares it. Returns the text."""
-    status, out, said = ran([sys.executable, "-B", TOOLS / "dump_core.py", core, "--all", "--no-tasks", "--no-waits", "--keep", kept,
+    status, out, said = ran([sys.executable, "-B", TOOLS / "dump_core.py", core, "--all", "--no-tasks", "--no-waits", "--no-exceptions", "--keep", kept,
                              "--program", words.program, "--salvage", words.salvage])
     with open(kept if kept.exists() else core, "rb") as file:
         machine, files = read_core(file)

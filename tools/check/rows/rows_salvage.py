@@ -448,6 +448,7 @@ def trees() -> Iterator[Row]:
     notes = [status_record(11, 4, 0x7F00), process_record(4, b"p", b"p\n")]
     text = lambda it: json.dumps(it, indent=2, ensure_ascii=False) + "\n"
     yield salvage("JSON", f"{GOOD} -j", named(heap(), notes=notes), text(tree))
+    yield salvage("JSON of a heap that isn't described", f"{GOOD} -j --heap", named(heap(), notes=notes), text(tree))
     below = heap()
     lined(-9)(below)
     unmarked = {**interpreter, "threads": [{**thread, "crashed": False}]}

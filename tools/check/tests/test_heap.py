@@ -55,6 +55,7 @@ class Heaps(unittest.TestCase):
         found = shown(heap(kind="torn", collecting=True, unreadable=5))
         self.assertEqual(found[2:], ["    ... a collection ran", "    ... generation 2 is torn at 0xbad0", "    ... 5 objects whose class can't be read"])
         self.assertIn("    ... generation 2 has more, from 0xbad0", shown(heap(kind="cut")))
+        self.assertIn("    ... 3 more classes aren't told", shown({**heap(), "more_classes": 3}))
 
     def test_many(self):
         """Forty classes have a line, and the others one."""
@@ -86,7 +87,8 @@ class Heaps(unittest.TestCase):
             path = Path(name) / "earlier"
             path.write_text(json.dumps({"heap": [heap(one_class("m.A", 5, 500))]}), encoding="utf-8")
             self.assertEqual(earlier_heaps(str(path)), heaps_of([heap(one_class("m.A", 5, 500))]))
-            for text in ("", "[]", "{}", '{"heap": null}', '{"heap": 3}', '{"heap": [{"interpreter": null, "kind": "no runtime"}]}', "[" * 100000):
+            for text in ("", "[]", "{}", '{"heap": null}', '{"heap": 3}', '{"heap": [{"interpreter": null, "kind": "no runtime"}]}', "[" * 100000,
+                         '{"heap": []}', '{"heap": ""}', json.dumps({"heap": [heap(one_class(5, 1, 1))]}), json.dumps({"heap": [heap(one_class("m.A", None, 1))]})):
                 path.write_text(text, encoding="utf-8")
                 with self.assertRaisesRegex(Fault, "has no heaps"):
                     earlier_heaps(str(path))
@@ -99,14 +101,33 @@ class Heaps(unittest.TestCase):
         self.assertIn("m.&lt;b&gt;", page)
         self.assertIn("a&lt;b (1)", page)
 
+    def test_long_page(self):
+        """A page has rows of 2,048 classes, and says how many more there are; what grew has its head."""
+        rows = [one_class(f"m.C{it}", 1, 5000 - it, unknown=it == 0) for it in range(2050)]
+        report = Report((Interpreter((), 0x10),), "3.11.7", 6, core="core", heaps=heaps_of([heap(*rows)]), growth=(Growth("m.<A>", 1, 2),))
+        page = report_page(report, Style())
+        self.assertIn("m.C0 (1 of unknown size)", page)
+        self.assertIn("m.C2047<", page)
+        self.assertNotIn("m.C2048<", page)
+        self.assertIn("... 2 more classes", page)
+        self.assertIn("Grown since the earlier core: +1 objects, +2 bytes", page)
+        self.assertIn("m.&lt;A&gt;", page)
 
-def core_of(*segments):
-    """A core of load segments: flags, start, size in memory, and bytes."""
+
+def table_of(*files):
+    """A note with a file table: start, end and name of each mapping."""
+    rows = b"".join(struct.pack("<3Q", start, end, 0) for start, end, _ in files)
+    table = struct.pack("<2Q", len(files), 4096) + rows + b"".join(name + b"\0" for _, _, name in files)
+    return struct.pack("<3I", 5, len(table), 0x46494C45) + b"CORE\0\0\0\0" + table
+
+
+def core_of(*segments, kinds=()):
+    """A core of segments: flags, start, size in memory, and bytes. They are load segments but where another kind is said."""
     head = bytearray(b"\x7fELF\2\1\1" + bytes(57))
     struct.pack_into("<2HI3QI6H", head, 16, 4, 62, 1, 0, 64, 0, 0, 64, 56, len(segments), 0, 0, 0)
     rows, data, at = b"", b"", 64 + 56 * len(segments)
-    for flags, start, size, held in segments:
-        rows += struct.pack("<2I6Q", 1, flags, at + len(data), start, 0, len(held), size, 1)
+    for number, (flags, start, size, held) in enumerate(segments):
+        rows += struct.pack("<2I6Q", dict(kinds).get(number, 1), flags, at + len(data), start, 0, len(held), size, 1)
         data += held
     return io.BytesIO(bytes(head) + rows + data)
 
@@ -119,6 +140,15 @@ class Mappings(unittest.TestCase):
         self.assertEqual(mapped_of(file, [0x8800]), (
             Mapped("heap and other memory without a file", 1, 0x3000, 0x1000), Mapped("stacks of threads", 1, 0x1000, 0x1000),
             Mapped("code without a file", 1, 0x1000, 0), Mapped("memory without a file that isn't writable", 1, 0x1000, 0)))
+
+    def test_cut(self):
+        """A core that was cut at its zero pages has the mappings that it had: pieces of a file's and of a stack go on with what is before them."""
+        note = table_of((0x1000, 0x4000, b"/lib/a"), (0x4000, 0x5000, b"/lib/a"))
+        file = core_of((0, 0, 0, note), (6, 0x1000, 0x1000, b"a"), (6, 0x2000, 0x2000, b"b"), (6, 0x4000, 0x1000, b""), (6, 0x5000, 0x1000, b"c"),
+                       (0, 0x6000, 0x1000, b""), (6, 0x7000, 0x1000, b"d"), (6, 0x8000, 0x1000, b"e"), kinds={0: 4})
+        self.assertEqual(mapped_of(file, [0x8800, 0x99000]), (
+            Mapped("stacks of threads", 1, 0x2000, 2), Mapped("heap and other memory without a file", 1, 0x1000, 1),
+            Mapped("memory without a file that isn't writable", 1, 0x1000, 0), Mapped("/lib/a", 2, 0x4000, 2)))
 
     def test_none(self):
         self.assertEqual(mapped_of(io.BytesIO(b"no core"), []), ())

@@ -32,6 +32,8 @@ def marks_of(tree: Tree) -> Tuple[str, ...]:
         end = tree["lists"][key]["end"]
         if end["kind"] != "whole":
             marks.append(f"{name} {ENDS[end['kind']]} {end['address']}")
+    if tree.get("more_classes"):
+        marks.append(f"{tree['more_classes']:,} more classes aren't told")
     if tree["unreadable"]:
         marks.append(f"{tree['unreadable']:,} objects whose class can't be read")
     return tuple(marks)
@@ -78,6 +80,11 @@ EARLIER = "--diff names what -j --heap wrote of an earlier core"
 """What is said of a file that is none."""
 
 
+def is_counted(heap: Heap) -> bool:
+    """Whether each class has a name and numbers, as the tool writes them."""
+    return not heap.fault and all(isinstance(it.name, str) and all(isinstance(number, int) for number in it[1:]) for it in heap.classes)
+
+
 def earlier_heaps(path: str) -> Tuple[Heap, ...]:
     """The heaps of an earlier core, by the JSON that the tool wrote of it."""
     name = shown(path.encode("utf-8", "surrogateescape"))
@@ -88,6 +95,6 @@ def earlier_heaps(path: str) -> Tuple[Heap, ...]:
         raise Fault(f"cannot read {name}: {error.strerror}", BAD_WORDS, EARLIER) from None
     except (ValueError, KeyError, TypeError, AttributeError, RecursionError):
         raise Fault(f"{name} has no heaps", BAD_WORDS, EARLIER) from None
-    if any(it.fault for it in heaps):
+    if not heaps or not all(map(is_counted, heaps)):
         raise Fault(f"{name} has no heaps", BAD_WORDS, EARLIER)
     return heaps

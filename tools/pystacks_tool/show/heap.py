@@ -23,10 +23,14 @@ def head_of(heap: Heap) -> str:
     return f"{owner}: {plural(objects, 'object')} that the collector tracks, {size:,} bytes, without what isn't tracked"
 
 
+def name_of(one: HeapClass) -> str:
+    """A class's name, and of how many of its objects the size isn't known."""
+    return in_line(one.name) + (f" ({one.unknown:,} of unknown size)" if one.unknown else "")
+
+
 def row_of(one: HeapClass) -> str:
     """The line of a class."""
-    more = f" ({one.unknown:,} of unknown size)" if one.unknown else ""
-    return f"    {one.objects:>12,} {one.total:>16,}  {in_line(one.name)}{more}"
+    return f"    {one.objects:>12,} {one.total:>16,}  {name_of(one)}"
 
 
 def rest_of(left: Sequence[HeapClass]) -> str:
@@ -79,12 +83,17 @@ def growth_row(one: Growth) -> str:
     return f"    {one.objects:>+12,} {one.size:>+16,}  {in_line(one.name)}"
 
 
+def growth_head(growth: Sequence[Growth]) -> str:
+    """How much all classes grew."""
+    return f"Grown since the earlier core: {sum(it.objects for it in growth):+,} objects, {sum(it.size for it in growth):+,} bytes"
+
+
 def growth_lines(growth: Sequence[Growth], shows_all: bool) -> Iterator[str]:
     """How the classes grew since an earlier core: those that grew most, and then how many others changed."""
     if not growth:
         return
     shown = growth if shows_all else growth[:CLASSES]
-    yield f"Grown since the earlier core: {sum(it.objects for it in growth):+,} objects, {sum(it.size for it in growth):+,} bytes"
+    yield growth_head(growth)
     yield from map(growth_row, shown)
     if len(shown) < len(growth):
         yield f"    ... {len(growth) - len(shown)} other classes: --all shows each"

@@ -4,7 +4,7 @@ from typing import Iterator, List, NamedTuple, Sequence
 
 from pystacks_tool.model import Growth, Heap, Mapped, NativeFrame, NativeStack, Report, Task, Tasks
 from pystacks_tool.show.escape import in_line
-from pystacks_tool.show.heap import counts_of, head_of
+from pystacks_tool.show.heap import counts_of, growth_head, head_of, name_of as class_name
 from pystacks_tool.show.native import crashed_first, frame_line, part_lines, stack_title, thread_names
 from pystacks_tool.show.page_frames import items_of, text
 from pystacks_tool.show.tasks import name_of, others_of, summary_of, task_blocks
@@ -15,6 +15,9 @@ NAMED = 1000
 
 OPEN = 8
 """How many places of tasks are open from the first on, and how many native stacks."""
+
+CLASSES = 2048
+"""The most classes of a heap that have a row."""
 
 
 class Section(NamedTuple):
@@ -106,9 +109,19 @@ def mapped_table(mapped: Sequence[Mapped]) -> str:
     return table_of(("bytes", "in the core", "mappings"), rows)
 
 
-def growth_table(growth: Sequence[Growth]) -> str:
+def rest_part(count: int) -> Iterator[str]:
+    """How many of so many classes have no row, where there are any."""
+    if count > CLASSES:
+        yield f"<p class=\"end\">... {count - CLASSES:,} more classes</p>"
+
+
+def growth_part(growth: Sequence[Growth]) -> Iterator[str]:
     """How the classes grew since an earlier core."""
-    return table_of(("more objects", "more bytes", "class"), [(f"{it.objects:+,}", f"{it.size:+,}", in_line(it.name)) for it in growth])
+    if not growth:
+        return
+    yield f"<p>{text(growth_head(growth))}</p>"
+    yield table_of(("more objects", "more bytes", "class"), [(f"{it.objects:+,}", f"{it.size:+,}", in_line(it.name)) for it in growth[:CLASSES]])
+    yield from rest_part(len(growth))
 
 
 def heap_part(heap: Heap) -> Iterator[str]:
@@ -119,7 +132,8 @@ def heap_part(heap: Heap) -> Iterator[str]:
         return
     yield f"<p>{text(counts_of(heap).strip())}</p>"
     yield from (f"<p class=\"end\">{text(in_line(it))}</p>" for it in heap.marks)
-    yield table_of(("objects", "bytes", "class"), [(f"{it.objects:,}", f"{it.total:,}", in_line(it.name)) for it in heap.classes])
+    yield table_of(("objects", "bytes", "class"), [(f"{it.objects:,}", f"{it.total:,}", class_name(it)) for it in heap.classes[:CLASSES]])
+    yield from rest_part(len(heap.classes))
 
 
 def sections_of(report: Report, style: Style) -> List[Section]:
@@ -132,6 +146,6 @@ def sections_of(report: Report, style: Style) -> List[Section]:
         found.append(Section("native", "Native stacks", "\n".join(native_of(report))))
     if report.heaps:
         rows = [mapped_table(report.mapped)] * bool(report.mapped) + [row for it in report.heaps for row in heap_part(it)]
-        rows += [growth_table(report.growth)] * bool(report.growth)
+        rows += growth_part(report.growth)
         found.append(Section("heap", "Memory", "\n".join(rows)))
     return found
