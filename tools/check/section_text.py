@@ -302,7 +302,7 @@ def lines_of_heap(heap: Tree) -> List[str]:
         lines += [f"    {name} {words} {end['address']}{' on' if end['kind'] == 'cut' else ''}"] if words else []
     lines += [f"    {heap['unreadable']} objects whose class can't be read"] if heap["unreadable"] else []
     lines += [line_of_class(it) for it in heap["classes"][:CLASSES]]
-    more = len(heap["classes"]) - CLASSES
+    more = len(heap["classes"]) + heap["more_classes"] - CLASSES
     return lines + ([f"    and {more} more classes"] if more > 0 else [])
 
 

@@ -62,7 +62,9 @@ class MadeHeap:
         self.objects, self.minor, self.heads = heap(LAYOUT), minor, heads_of(FIRSTS[minor])
         self.objects.write(self.head("permanent"), bytes(112))
         self.lists: Dict[str, List[int]] = {it: [] for it in HEADS}
-        self.link()
+        for it in HEADS:
+            self.objects.word(self.head(it), self.head(it))
+            self.objects.word(self.head(it) + 8, self.head(it))
 
     def klass(self, name: str, basic: int = 32, item: int = 0, bits: Sequence[int] = (TRACKED,)) -> int:
         """A class of C's, whose objects have so many bytes, and so many for each item."""
@@ -105,24 +107,19 @@ class MadeHeap:
 
     def add(self, of: str, klass: int, *words: int) -> int:
         """One more object of a list, with these words behind the one that names its class. Where it stands."""
-        data = struct.pack(f"<{4 + len(words)}Q", 0, 0, 1, klass, *(it % 2 ** 64 for it in words))
-        head = self.objects.write(self.objects.free(), data)
-        self.lists[of].append(head)
-        self.link()
+        own, members, objects = self.head(of), self.lists[of], self.objects
+        before = members[-1] if members else own
+        # (the two lowest bits of a link back say something else: they are set here)
+        data = struct.pack(f"<{4 + len(words)}Q", own, before + 3, 1, klass, *(it % 2 ** 64 for it in words))
+        head = objects.write(objects.free(), data)
+        objects.word(before, head)
+        objects.word(own + 8, head)
+        members.append(head)
         return head + 16
 
     def head(self, of: str) -> int:
         """Where the head of a list stands."""
         return HEAP + self.heads[of]
-
-    def link(self) -> None:
-        """Has each list lead from its head to its members, and each of these back to the one before. The two lowest bits of links back say
-        something else: they are set here."""
-        for name, members in self.lists.items():
-            ring = [self.head(name), *members]
-            for at, after, before in zip(ring, [*ring[1:], ring[0]], [ring[-1], *ring[:-1]]):
-                self.objects.word(at, after)
-                self.objects.word(at + 8, before + (3 if at != ring[0] else 0))
 
     def files(self, *cuts: int, more: Sequence[Segment] = (), interpreters: Sequence[int] = (HEAP,)) -> Dict[str, bytes]:
         """The files of a core of these objects. Of each two cuts the bytes from the first to the second one are not there."""

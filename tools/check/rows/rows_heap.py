@@ -1,6 +1,7 @@
 """Rows of `pysalvage --heap`: what is counted of each class, how it is named, how lists end, and why no heap is told."""
 
 import json
+import struct
 from typing import Callable, Dict, Iterator, List, Optional, Sequence, Tuple
 
 from made_heaps import BYTES, COLLECTING, DICTS, FLAGS, HEADS, INTEGER, LIST, NOWHERE, QUALNAME, RECORDS, TRACKED, TUPLE, TYPE
@@ -260,11 +261,26 @@ def of_classes(count: int) -> Tuple[MadeHeap, List[int]]:
     return made, classes
 
 
+def of_dense_classes(count: int) -> Tuple[MadeHeap, List[int], int]:
+    """The same of classes that stand 8 bytes apart: each of their words is one address, that of their name; and how many bytes each object has."""
+    made = MadeHeap()
+    objects = made.objects
+    # (as flags that address says that the collector tracks the objects, which have no count)
+    name = objects.write(0x14000, b"T".ljust(128, b"\0"))
+    begin = objects.write(objects.free(), struct.pack("<Q", name) * (count + 64))
+    classes = [begin + 8 * it for it in range(count)]
+    for it in classes:
+        made.add("youngest", it)
+    return made, classes, name + 16
+
+
 def many() -> Iterator[Row]:
     """As many classes as have a line, and more."""
     for count, more in ((40, ""), (41, "    and 1 more classes\n"), (141, "    and 101 more classes\n")):
         made, _ = of_classes(count)
         yield told(f"{count} classes", made, head(0, 0, count) + "".join(line(1, 48, f"C{it}") for it in range(40)) + more)
+    made, _, size = of_dense_classes(2050)
+    yield told("2,050 classes", made, head(2050) + line(1, size, "T") * 40 + "    and 2010 more classes\n")
 
 
 def of_two() -> Tuple[MadeHeap, int]:
@@ -364,13 +380,14 @@ def class_tree(klass: int, name: Optional[str], objects: int, size: int, more: i
 
 
 def heap_tree(
-    classes: Sequence[Dict[str, object]], is_collecting: Optional[bool] = False, unreadable: int = 0, **lists: Tuple[int, Dict[str, str]],
+    classes: Sequence[Dict[str, object]], is_collecting: Optional[bool] = False, unreadable: int = 0, more: int = 0,
+    **lists: Tuple[int, Dict[str, str]],
 ) -> Dict[str, object]:
-    """The JSON of a heap, of whose lists these have objects, or no whole end."""
+    """The JSON of a heap, with so many more classes, of whose lists these have objects, or no whole end."""
     whole = (0, {"kind": "whole"})
     told_lists = {name: {"end": lists.get(name, whole)[1], "objects": lists.get(name, whole)[0]} for name in HEADS}
     return {"classes": list(classes), "collecting": is_collecting, "interpreter": hex(HEAP), "kind": "heap", "lists": told_lists,
-            "unreadable": unreadable}
+            "more_classes": more, "unreadable": unreadable}
 
 
 def trees() -> Iterator[Row]:
@@ -390,6 +407,9 @@ def trees() -> Iterator[Row]:
     yield json_row("classes", made, [heap_tree(counted_classes, youngest=(2, whole), middle=(1, whole), oldest=(1, whole), permanent=(1, whole))])
     made, classes = of_classes(41)
     yield json_row("41 classes", made, [heap_tree([class_tree(it, f"C{at}", 1, 48) for at, it in enumerate(classes)], oldest=(41, whole))])
+    made, classes, size = of_dense_classes(2050)
+    first_classes = [class_tree(it, "T", 1, size) for it in classes[:2048]]
+    yield json_row("2,050 classes", made, [heap_tree(first_classes, more=2, youngest=(2050, whole))])
     made, (first, second, _) = of_three("youngest")
     klass, own = made.klass("U"), made.head("oldest")
     made.objects.word(second, NOWHERE)
