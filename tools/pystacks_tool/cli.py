@@ -204,6 +204,8 @@ def clash(options: Options) -> str:
     fault = clash_of_many(options) if options.group or options.keys else "--from is taken with --group" if options.lines else ""
     if fault:
         return fault
+    if options.heap and (options.group or options.keys or options.lines or options.collapsed or options.plain):
+        return "--heap is taken where one core is shown: as text, as JSON or as a page"
     if options.diff and not options.heap:
         return "--diff is taken with --heap"
     if options.collapsed and options.locals:

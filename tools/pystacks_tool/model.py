@@ -346,7 +346,7 @@ class Report(NamedTuple):
     """The rings of threads that wait for each other, each in a line."""
     heaps: Tuple[Heap, ...] = ()
     """What the heaps hold, where that is asked for."""
-    growth: Tuple[Growth, ...] = ()
+    growth: Optional[Tuple[Growth, ...]] = None
     """How the classes grew since an earlier core, where one is named: what grew most first. A class that didn't isn't there."""
     mapped: Tuple[Mapped, ...] = ()
     """The memory of the process by kinds of mappings, where heaps are asked for."""

@@ -16,6 +16,9 @@ KEY = "heap"
 LISTS = (("youngest", "generation 0"), ("middle", "generation 1"), ("oldest", "generation 2"), ("permanent", "the permanent generation"))
 """The lists of the collector, with their names."""
 
+UNNAMED = "class at 0x"
+"""What stands for the name of a class that can't be read, before its address."""
+
 ENDS = {"torn": "is torn at", "unreadable": "can't be read at", "cut": "has more, from"}
 """How a list ends that isn't whole."""
 
@@ -58,9 +61,9 @@ def heaps_of(trees: Optional[List[Tree]]) -> Tuple[Heap, ...]:
 
 
 def counts_of(heaps: Sequence[Heap]) -> Dict[str, Tuple[int, int]]:
-    """How many objects and bytes the classes of a name have, in all heaps."""
+    """How many objects and bytes the classes of a name have, in all heaps. (An address names another class in another process.)"""
     found: Dict[str, Tuple[int, int]] = {}
-    for it in (one for heap in heaps for one in heap.classes):
+    for it in (one for heap in heaps for one in heap.classes if not one.name.startswith(UNNAMED)):
         objects, size = found.get(it.name, (0, 0))
         found[it.name] = objects + it.objects, size + it.total
     return found

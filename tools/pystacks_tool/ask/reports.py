@@ -111,6 +111,7 @@ def with_heaps(options: Options, core: OpenedCore, program: str, report: Report,
     """The report with what the heaps hold, where that is asked for and the program tells it."""
     if not options.heap or not knows(program, HEAP):
         return report
+    earlier = earlier_heaps(options.diff) if options.diff else None
     try:
         heaps = heaps_of(tree[HEAP_KEY])
     except (KeyError, TypeError) as error:
@@ -118,7 +119,7 @@ def with_heaps(options: Options, core: OpenedCore, program: str, report: Report,
     stacks = [value for it in report.registers for name, value in it.values if name in ("rsp", "sp")]
     with open(core.word, "rb") as file:
         mapped = mapped_of(file, stacks)
-    growth = growth_of(earlier_heaps(options.diff), heaps) if options.diff else ()
+    growth = None if earlier is None else growth_of(earlier, heaps)
     return report._replace(heaps=heaps, mapped=mapped, growth=growth)
 
 

@@ -1,6 +1,6 @@
 """What heaps hold, in lines: the memory of the process by kinds of mappings, and the classes with the most bytes."""
 
-from typing import Iterator, List, Sequence
+from typing import Iterator, List, Optional, Sequence
 
 from pystacks_tool.model import Growth, Heap, HeapClass, Mapped, Report
 from pystacks_tool.show.escape import in_line
@@ -88,9 +88,9 @@ def growth_head(growth: Sequence[Growth]) -> str:
     return f"Grown since the earlier core: {sum(it.objects for it in growth):+,} objects, {sum(it.size for it in growth):+,} bytes"
 
 
-def growth_lines(growth: Sequence[Growth], shows_all: bool) -> Iterator[str]:
+def growth_lines(growth: Optional[Sequence[Growth]], shows_all: bool) -> Iterator[str]:
     """How the classes grew since an earlier core: those that grew most, and then how many others changed."""
-    if not growth:
+    if growth is None:
         return
     shown = growth if shows_all else growth[:CLASSES]
     yield growth_head(growth)

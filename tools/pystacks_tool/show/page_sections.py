@@ -1,6 +1,6 @@
 """What a page shows beside the stacks of Python: the tasks of asyncio, and native stacks. Everything from the core is escaped."""
 
-from typing import Iterator, List, NamedTuple, Sequence
+from typing import Iterator, List, NamedTuple, Optional, Sequence
 
 from pystacks_tool.model import Growth, Heap, Mapped, NativeFrame, NativeStack, Report, Task, Tasks
 from pystacks_tool.show.escape import in_line
@@ -115,9 +115,9 @@ def rest_part(count: int) -> Iterator[str]:
         yield f"<p class=\"end\">... {count - CLASSES:,} more classes</p>"
 
 
-def growth_part(growth: Sequence[Growth]) -> Iterator[str]:
+def growth_part(growth: Optional[Sequence[Growth]]) -> Iterator[str]:
     """How the classes grew since an earlier core."""
-    if not growth:
+    if growth is None:
         return
     yield f"<p>{text(growth_head(growth))}</p>"
     yield table_of(("more objects", "more bytes", "class"), [(f"{it.objects:+,}", f"{it.size:+,}", in_line(it.name)) for it in growth[:CLASSES]])
