@@ -257,9 +257,9 @@ def heaps() -> Iterator[Case]:
     yield texts("131,072 objects of one class", one)
     yield trees("131,072 objects of one class", one)
     yield texts("262,144 objects of a class each", other, memory=100)
-    yield trees("262,144 objects of a class each", other, memory=500)
+    yield trees("262,144 objects of a class each", other, memory=100)
     yield texts("524,288 objects of a class each, 8 bytes apart", woven, memory=200)
-    yield trees("524,288 objects of a class each, 8 bytes apart", woven, memory=1000)
+    yield trees("524,288 objects of a class each, 8 bytes apart", woven, memory=200)
     yield texts("2048 classes that have one dict of 4096 names of a character", lambda: of_long_dicts(2048, 1))
     yield texts("2048 classes that have one dict of 4096 names of 4095 characters", lambda: of_long_dicts(2048, 4095), seconds=TEN)
 
