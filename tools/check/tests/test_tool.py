@@ -312,7 +312,7 @@ class Shown(Case):
         path = self.put("srv/a.py", b"one\n  two\n")
         os.utime(path, (0, 0))
         self.programs(salvage(interpreter([thread(1, [frame("f", str(path), 2), frame("g", "/srv/a.py", 1)])])))
-        self.assertNotIn("two", self.tool()[1])
+        self.assertNotIn("> two", self.tool()[1])
         self.assertIn(f"    f ({path}:2)\n        > two\n    g (/srv/a.py:1)\n", self.tool("--source")[1])
         self.assertIn("    g (/srv/a.py:1)\n        > one\n", self.tool("--source", "--root", self.folder)[1])
         self.assertIn("    g (/srv/a.py:1)\n        > one\n", self.tool("--source", self.folder)[1])
