@@ -58,8 +58,8 @@ pub fn first_crashed(crash: Option<Crash>, interpreters: &[SalvagedInterpreter])
         .position(|interpreter| has_crashed(crash, interpreter))
 }
 
-/// Some interpreters with their locks, in order. At most 3 reads for each.
-fn with_locks<M: ContainsAddr, P: ProcessMemory>(
+/// Some interpreters with their own locks, in order. The one error is out of memory. At most 3 reads for each.
+pub fn with_locks<M: ContainsAddr, P: ProcessMemory>(
     alloc: Global,
     info: &PythonProcessInfo<M>,
     process: &mut P,

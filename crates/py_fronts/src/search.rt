@@ -59,11 +59,13 @@ pub(crate) struct ThreadsWalk {
     pub(crate) end: ChainEnd,
 }
 
-/// An address that was tried: its first thread, where it is shown, and how many members were walked for it.
-#[derive(Clone, Copy, Drop)]
-pub(crate) struct Trial {
-    pub(crate) head: Option<u64>,
-    pub(crate) members: u64,
+/// An address that was tried as an interpreter's.
+#[derive(Clone, Copy, Debug, Drop)]
+pub struct Trial {
+    /// The address of its first thread, where it is an interpreter whose chain of threads is whole.
+    pub head: Option<u64>,
+    /// How many threads were walked for it, at most 4096.
+    pub members: u64,
 }
 
 /// What was found so far, how many addresses were looked at, and how many members were walked.
@@ -121,8 +123,10 @@ fn whole_head(end: ChainEnd, head: u64) -> Option<u64>
     }
 }
 
-/// Tries an address that is found by search alone. At most 3 reads, and one for each member that is walked.
-fn try_address<M: ContainsAddr, P: ProcessMemory>(
+/// Tries an address that is found by search alone: it is an interpreter's where a map holds it and its first thread, each
+/// names the other, and the chain of its threads is whole. What can't be read is none. The one error is out of memory.
+/// At most 3 reads, and one for each thread that is walked.
+pub fn try_address<M: ContainsAddr, P: ProcessMemory>(
     alloc: Global,
     maps: &M,
     process: &mut P,

@@ -47,8 +47,8 @@ pub struct ThreadsFront {
 }
 
 /// What stands at an address of a chain of threads.
-#[derive(Drop)]
-pub(crate) enum Thread {
+#[derive(Debug, Drop)]
+pub enum Thread {
     /// A thread of the interpreter, by its record.
     At(Vec<u8>),
     /// None.
@@ -68,8 +68,9 @@ fn thread_of(layout: &Layout, interpreter: u64, thread: Vec<u8>) -> Thread
     Thread::At(thread)
 }
 
-/// What stands at an address of an interpreter's chain of threads. One read.
-pub(crate) fn read_thread<P: ProcessMemory>(
+/// What stands at an address of an interpreter's chain of threads: a thread's record, as long as the layout says, which
+/// names the interpreter, or how the chain ends there. The one error is out of memory. One read.
+pub fn read_thread<P: ProcessMemory>(
     alloc: Global,
     process: &mut P,
     layout: &Layout,
