@@ -1,5 +1,5 @@
-//! The calls on cores that no command makes, each once with ample memory: a report that is counted, the text of the stacks
-//! of an opened process, and a process whose addresses are handed in; and what no command asks for.
+//! The calls on cores that no command makes, each once with ample memory: a report that is counted, the text of the
+//! stacks of an opened process, and a process whose addresses are handed in; and what no command asks for.
 ghost use Rattle.std.specs.Prelude.{◌≡◌, ◌<◌};
 
 use crate::image_tests::built;

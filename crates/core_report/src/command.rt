@@ -122,8 +122,8 @@ pub fn run<F: Files, S: Sink, E: Sink>(
     err: &mut E,
 ) -> u8
     // each status has its cause and its line. 0 comes only after the whole text was written, and then nothing is said.
-    // Under another one but 4 nothing is written to `out`. The words are refused exactly where they ask for nothing, and
-    // 3 comes exactly where a file that they name could not be read
+    // Under another one but 4 nothing is written to `out`. The words are refused exactly where they ask for nothing,
+    // and 3 comes exactly where a file that they name could not be read
     ensures runs { IsRun pystacks (command_of (texts words.now))
         (ran (F.seen files.old) (F.seen files.new) (S.seen out.old) (S.seen out.new))
         (E.seen err.old) (E.seen err.new) result }

@@ -229,10 +229,10 @@ impl PythonCoreDump {
     }
 
     /// The traces of `get_stack`, with ranges of the process's memory that suffice for them: the same traces are right
-    /// over every part of the memory that holds all of these. Each is in memory, of fewer than 65536 bytes, and no wider
-    /// than what is looked at: as long as a field or a record of the layout, or exactly the characters of a text or the
-    /// bytes of a bytes object. They stand in the order in which they were read, which no clause says. The errors are
-    /// those of `get_stack`.
+    /// over every part of the memory that holds all of these. Each is in memory, of fewer than 65536 bytes, and no
+    /// wider than what is looked at: as long as a field or a record of the layout, or exactly the characters of a text
+    /// or the bytes of a bytes object. They stand in the order in which they were read, which no clause says. The
+    /// errors are those of `get_stack`.
     pub fn footprint(&self, config: &Config) -> Result<(Vec<StackTrace>, Vec<Span>), CoreError>
         ensures right { StacksSay (opened_memory self.now) self.now.finding config.now (traces_with result) }
         // what is right is the answer, want of memory aside

@@ -51,11 +51,12 @@ pub fn load(alloc: Global, bytes: Vec<u8>, images: &Images) -> Result<Loaded, Co
     Ok(Loaded { dump, notes })
 }
 
-/// The report of a core over a memory of its process, by what is known of that (`process_info`). `report` is this over the
-/// core's own memory and its images; any other memory that holds these bytes, as one that counts its reads, has the same.
+/// The report of a core over a memory of its process, by what is known of that (`process_info`). `report` is this over
+/// the core's own memory and its images; any other memory that holds these bytes, as one that counts its reads, has the
+/// same.
 ///
-/// `notes` are what the core's notes tell (`load`). The errors are those of `report` from the version on. At most 10 reads for the search and 13 for the stacks, and those of the candidates that are tried and of what the
-/// stacks meet.
+/// `notes` are what the core's notes tell (`load`). The errors are those of `report` from the version on. At most 10
+/// reads for the search and 13 for the stacks, and those of the candidates that are tried and of what the stacks meet.
 pub fn report_over<M: ContainsAddr, P: ProcessMemory>(
     alloc: Global,
     core: &CoreDump,

@@ -1,7 +1,8 @@
--- What a function does before it returns, by its instructions (Intel SDM, volume 2: ADD, POP, LEAVE, RET): where nothing
--- else stands from an address on, the thread returns so. That at most 16 instructions are followed, and that eight bytes
--- can be read where each of them stands, are this project's rules.
-use Rattle.std.specs.Prelude.{ℕ, zero, suc, ◌+◌, ◌-◌, ◌/◌, ◌%◌, ◌^◌, ◌==◌, ◌&&◌, ◌||◌, nat_lt, nat_le, Bool, true, false}
+-- What a function does before it returns, by its instructions (Intel SDM, volume 2: ADD, POP, LEAVE, RET): where
+-- nothing else stands from an address on, the thread returns so. That at most 16 instructions are followed, and that
+-- eight bytes can be read where each of them stands, are this project's rules.
+use Rattle.std.specs.Prelude.{ℕ, zero, suc, ◌+◌, ◌-◌, ◌/◌, ◌%◌, ◌^◌, ◌==◌, ◌&&◌, ◌||◌, nat_lt, nat_le, Bool, true}
+use Rattle.std.specs.Prelude.{false}
 use Rattle.std.specs.Prelude.{List, Option, Some, None, if◌then◌else◌, slice_set}
 use Rattle.process_memory.specs.Memory.{Memory}
 use Rattle.frame_rows.specs.declared.row.Machine.{Machine}

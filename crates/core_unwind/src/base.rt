@@ -16,8 +16,8 @@ use process_memory::ProcessMemory;
 /// The last address that a frame pointer may have: the CFA is 16 bytes above it.
 const LAST: u64 = 0xffff_ffff_ffff_ffef;
 
-/// Whether a word may be a frame pointer: not below the stack pointer, a multiple of 8, and so that the CFA is above that
-/// of the frame before.
+/// Whether a word may be a frame pointer: not below the stack pointer, a multiple of 8, and so that the CFA is above
+/// that of the frame before.
 fn is_base(state: &State, top: u64, base: u64) -> bool
     ensures { result ≡ is_base state.now top base }
 {

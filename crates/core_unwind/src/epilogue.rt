@@ -2,7 +2,8 @@
 ghost use Rattle.std.specs.Prelude.{◌≡◌, ◌*◌, IfOk};
 ghost use Rattle.process_memory.specs.Seen.{Reading};
 ghost use Rattle.core_unwind.specs.Epilogues.{added, begun_at, behind, epilogue, extended, goes_on, instruction_at};
-ghost use Rattle.core_unwind.specs.Epilogues.{instruction_in, is_return, long_in, popped_behind, put, short_in, unwound};
+ghost use Rattle.core_unwind.specs.Epilogues.{instruction_in, is_return, long_in, popped_behind, put, short_in};
+ghost use Rattle.core_unwind.specs.Epilogues.{unwound};
 
 use crate::end::UnwindError;
 use crate::guess::stack_top;
@@ -298,8 +299,8 @@ fn begun_at(machine: Machine, state: &State) -> Option<Standing>
     }
 }
 
-/// How a frame goes on whose code is an epilogue from its address on; none where it isn't, or the CFA would not be above
-/// that of the frame before. At most 32 reads.
+/// How a frame goes on whose code is an epilogue from its address on; none where it isn't, or the CFA would not be
+/// above that of the frame before. At most 32 reads.
 pub(crate) fn read_epilogue<P: ProcessMemory>(
     process: &mut P,
     machine: Machine,

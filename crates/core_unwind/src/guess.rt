@@ -108,8 +108,8 @@ fn guessed_caller(machine: Machine, state: &State, top: u64, word: u64) -> State
     }
 }
 
-/// The state behind the call of what is no code, if a call was the last thing that a thread did, and its code is that of
-/// a file at hand. At most one read.
+/// The state behind the call of what is no code, if a call was the last thing that a thread did, and its code is that
+/// of a file at hand. At most one read.
 fn read_jump<P: ProcessMemory>(
     process: &mut P,
     mappings: &CodeMap<'_>,

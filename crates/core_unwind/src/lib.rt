@@ -1,11 +1,11 @@
 //! The native stack of a thread, by its registers, the memory of its process and the files that were mapped.
 //!
 //! A stack is a chain of steps. A step takes the call frame information of the file in which the thread stands, and
-//! gives the registers that the caller had, by DWARF 5, section 6.4, and the psABI of the machine. Where no table covers
-//! the address, the frame's own instructions may say it (the code to which a handler of a signal returns, and what
-//! stands before a return); such a frame has a mark. A chain ends where nothing says how it goes on, and the end says
-//! why. What is guessed stands apart: who may have called there is no part of the stack, but where another one may begin
-//! (`read_guess`). The crate knows no core: memory is any `ProcessMemory`, and files are their bytes.
+//! gives the registers that the caller had, by DWARF 5, section 6.4, and the psABI of the machine. Where no table
+//! covers the address, the frame's own instructions may say it (the code to which a handler of a signal returns, and
+//! what stands before a return); such a frame has a mark. A chain ends where nothing says how it goes on, and the end
+//! says why. What is guessed stands apart: who may have called there is no part of the stack, but where another one may
+//! begin (`read_guess`). The crate knows no core: memory is any `ProcessMemory`, and files are their bytes.
 #![tactic(auto)]
 
 mod base;

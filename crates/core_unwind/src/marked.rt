@@ -138,9 +138,9 @@ fn read_marked<P: ProcessMemory>(
     read_uncovered(process, mappings, manner, state, tabled)
 }
 
-/// One step from a state: the frame there, and the state of its caller, or how the stack ends. Tables say it; where none
-/// covers the address, the frame's own instructions, and where guesses are wanted its frame pointer, and the frame has a
-/// mark. At most 8549 reads.
+/// One step from a state: the frame there, and the state of its caller, or how the stack ends. Tables say it; where
+/// none covers the address, the frame's own instructions, and where guesses are wanted its frame pointer, and the frame
+/// has a mark. At most 8549 reads.
 pub fn read_step<P: ProcessMemory>(
     process: &mut P,
     mappings: &CodeMap<'_>,

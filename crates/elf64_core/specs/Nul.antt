@@ -21,4 +21,5 @@ nul_from bytes at = position_from is_nul at (drop at bytes)
 -- where it stands from the start of each block of 64 bytes on
 pub record AreEnds (bytes : List ℕ) (ends : List (Option ℕ)) : Type 0 where
   pub count : length ends ≡ length bytes / 64 + 1
-  pub each : (number : ℕ) (other : Option ℕ) → number < length ends → slice_index_or ends number other ≡ nul_from bytes (64 * number)
+  pub each : (number : ℕ) (other : Option ℕ) → number < length ends
+      → slice_index_or ends number other ≡ nul_from bytes (64 * number)

@@ -3,8 +3,8 @@ use frame_rows::{Cfa, RowError};
 use frame_tables::{RecordError, RecordFlaw, Room, Table, TableError};
 
 /// A file of x86-64 that is mapped at 0x400000: its header, a load segment and PT_GNU_EH_FRAME; from 176 on the table
-/// of two entries, from 204 on the common information entry, and from 228 and 252 on the entries of 0x401000 to 0x40100f
-/// and of 0x401020 to 0x40103f.
+/// of two entries, from 204 on the common information entry, and from 228 and 252 on the entries of 0x401000 to
+/// 0x40100f and of 0x401020 to 0x40103f.
 const FILE: [u8; 276] = [
     127, 69, 76, 70, 2, 1, 1, 0, 0, 0, 0, 0, 0, 0, 0, 0, 3, 0, 62, 0, 1, 0, 0, 0, 0, 0, 0, 0, 0, 0,
     0, 0, 64, 0, 0, 0, 0, 0, 0, 0, 0, 0, 0, 0, 0, 0, 0, 0, 0, 0, 0, 0, 64, 0, 56, 0, 2, 0, 0, 0, 0,

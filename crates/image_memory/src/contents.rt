@@ -121,7 +121,8 @@ fn read_segment<'a>(
 /// What is told with what a further segment says. The one error is want of memory, of which more records than there is
 /// room for count.
 fn with_said<'a>(told: Told<'a>, said: Said<'a>, room: usize) -> Result<Told<'a>, AllocError>
-    ensures statuses { IfOk result (λ all. all.statuses.items ≡ told.entry.statuses.items ++ said.entry.statuses.items) }
+    ensures statuses { IfOk result (λ all. all.statuses.items
+        ≡ told.entry.statuses.items ++ said.entry.statuses.items) }
     ensures process { IfOk result (λ all. all.process ≡ option_or said.entry.process told.entry.process) }
     ensures last { IfOk result (λ all. (addr : ℕ) → option_map file_entry_of (get nat_cmp all.last addr)
         ≡ option_or (entry_for (map file_entry_of said.entry.entries.items) addr)

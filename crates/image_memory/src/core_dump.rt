@@ -81,9 +81,9 @@ impl CoreDump {
     /// `NotElf64` comes exactly where there are no 64 bytes, or the first six are not 7f 45 4c 46 02 01.
     /// `BadHeader` comes exactly where the header is accepted and the program headers are not: see
     /// `Elf64::parse`. `NoNotes` comes exactly where these are accepted and none is that of a note segment.
-    /// Where one of these holds, want of memory never comes in its place. Else `BadNote` comes only where the bytes of a note segment
-    /// are no notes, a status record has less than 112 bytes or a process record less than 136, or a file
-    /// table is shorter, or has fewer names, than its count says; and there no other error comes but want of
+    /// Where one of these holds, want of memory never comes in its place. Else `BadNote` comes only where the bytes of
+    /// a note segment are no notes, a status record has less than 112 bytes or a process record less than 136, or a
+    /// file table is shorter, or has fewer names, than its count says; and there no other error comes but want of
     /// memory. Else the one error is want of memory.
     pub fn new(alloc: Global, bytes: Vec<u8>) -> Result<CoreDump, DumpError>
         ensures right { IfErr result (RefusesCore bytes.items) }

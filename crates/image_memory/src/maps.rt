@@ -123,8 +123,8 @@ pub(crate) struct MapNames {
     pub(crate) room: usize,
 }
 
-/// The name that an entry gives the maps at an address, if one does, held once. One of more bytes than there is room for
-/// counts as want of memory.
+/// The name that an entry gives the maps at an address, if one does, held once. One of more bytes than there is room
+/// for counts as want of memory.
 fn name_at(
     alloc: Global,
     names: &mut MapNames,

@@ -53,8 +53,8 @@ fn list_row<W: Write>(out: &mut W, address: u64, row: &Row) -> io::Result<()> {
     writeln!(out)
 }
 
-/// The rows of an entry at its first `most` addresses: one for each at which it is another than at the address before, or
-/// why there is none.
+/// The rows of an entry at its first `most` addresses: one for each at which it is another than at the address before,
+/// or why there is none.
 fn list_rows<W: Write>(
     out: &mut W,
     table: &Table<'_>,
@@ -101,8 +101,8 @@ fn list_entry<W: Write>(
     list_rows(out, table, entry, most, room)
 }
 
-/// The entries of a file and their rows: each `step`-th, at the first `most` addresses of each, or one line that says why
-/// there are none.
+/// The entries of a file and their rows: each `step`-th, at the first `most` addresses of each, or one line that says
+/// why there are none.
 pub(crate) fn list_frames<W: Write>(
     out: &mut W,
     bytes: &[u8],

@@ -6,24 +6,25 @@
 //!
 //! Of an ELF file the machine, each segment, each section, each symbol and the build id have a line; with
 //! ADDR and SIZE, decimal numbers, also what the file says as an image that is mapped there. Of its call frames each
-//! entry has a line, or each STEP-th, with its first address, how many it covers and the register of the return address,
-//! and behind it each row with the first address at which it holds, among the first MOST of the entry: the CFA, and the
-//! rules of registers by their numbers (`c-8` is saved at the CFA less 8, `v-8` is that address, `r3` is in register 3,
-//! `u` lost, `s` the same, `exp` and `vexp` what an expression says). Of maps text, which is read as that of the process
-//! 1, each line has one. All these numbers are decimal. A name that is no text is `?`, and `-` stands for none. Of a core
-//! each read of its stacks, by a layout file and the files that its process had mapped, has a line in order: the start and
-//! the size of the range, in hexadecimal digits. Or one line says whether there is a report, and that it took MOST reads or
-//! fewer, or how many. Of its types each that is looked for has a line: its name, its address in hexadecimal digits, and
-//! `code` or `module`, by how it was found; or that it is not there, or could not be read. Of each object at an address
-//! of its process, in hexadecimal digits, the chain of what awaits what from there on: `chain ADDR`, for each member a
-//! line `member ADDR KIND STATE LINE FUNCTION FILE`, where `-` stands for no frame, and `end` with how it ends.
+//! entry has a line, or each STEP-th, with its first address, how many it covers and the register of the return
+//! address, and behind it each row with the first address at which it holds, among the first MOST of the entry: the
+//! CFA, and the rules of registers by their numbers (`c-8` is saved at the CFA less 8, `v-8` is that address, `r3` is
+//! in register 3, `u` lost, `s` the same, `exp` and `vexp` what an expression says). Of maps text, which is read as
+//! that of the process 1, each line has one. All these numbers are decimal. A name that is no text is `?`, and `-`
+//! stands for none. Of a core each read of its stacks, by a layout file and the files that its process had mapped, has
+//! a line in order: the start and the size of the range, in hexadecimal digits. Or one line says whether there is a
+//! report, and that it took MOST reads or fewer, or how many. Of its types each that is looked for has a line: its
+//! name, its address in hexadecimal digits, and `code` or `module`, by how it was found; or that it is not there, or
+//! could not be read. Of each object at an address of its process, in hexadecimal digits, the chain of what awaits what
+//! from there on: `chain ADDR`, for each member a line `member ADDR KIND STATE LINE FUNCTION FILE`, where `-` stands
+//! for no frame, and `end` with how it ends.
 //!
 //! A program that is built is that of a seed, or has so many threads, of ids from 32512 on, of so many frames each, all
 //! with the same locals, of which the first so many are arguments. A VALUE is a number, a text, or `[` and items with
 //! blanks between them, each a number or a text. The thread with the number OWNER, counted from 0, holds the lock;
 //! where OWNER is no number none does. The machine is `x86-64`, `aarch64` or `other`. The part is `core` or `image`,
-//! whose bytes are written, or `places`, the addresses of the interpreter and the lock. Where nothing is built, one line
-//! says why.
+//! whose bytes are written, or `places`, the addresses of the interpreter and the lock. Where nothing is built, one
+//! line says why.
 //!
 //! This is a tool of the repository, and no command of `pystacks`.
 #![tactic(auto)]

@@ -33,7 +33,8 @@ impl<P: ProcessMemory> ProcessMemory for Tally<P> {
     }
 }
 
-/// Whether the report of a core comes, and how many reads it takes, or was refused by; none where the process isn't known.
+/// Whether the report of a core comes, and how many reads it takes, or was refused by; none where the process isn't
+/// known.
 fn reported(
     alloc: Global,
     loaded: Loaded,

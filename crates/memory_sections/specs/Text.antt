@@ -1,5 +1,6 @@
 -- The lines of the sections that are read in a process's memory.
-use Rattle.std.specs.Prelude.{ℕ, ◌==◌, if◌then◌else◌, decimal, ◌++◌, false, true, List, [], map, Option, Some, None, Vec, codes}
+use Rattle.std.specs.Prelude.{ℕ, ◌==◌, if◌then◌else◌, decimal, ◌++◌, false, true, List, [], map, Option, Some, None}
+use Rattle.std.specs.Prelude.{Vec, codes}
 use Rattle.std.specs.Fmt.{digits}
 use Rattle.std.specs.Global.{Global}
 use Rattle.std.specs.List.{concat}

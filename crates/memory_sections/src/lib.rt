@@ -1,6 +1,6 @@
-//! The sections of what is told of a process that are read in its memory: the names of its threads, the tasks of asyncio,
-//! exceptions, what threads wait for, native stacks and which of their frames run which of Python's, the values of
-//! locals, and what the heap holds. Each is asked for by itself.
+//! The sections of what is told of a process that are read in its memory: the names of its threads, the tasks of
+//! asyncio, exceptions, what threads wait for, native stacks and which of their frames run which of Python's, the
+//! values of locals, and what the heap holds. Each is asked for by itself.
 //!
 //! What each one reads, and what it owes, is its own crate's; here they are asked of an opened process, of whose
 //! interpreters this is left.

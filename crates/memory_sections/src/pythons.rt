@@ -27,8 +27,8 @@ fn chain_threads(alloc: Global, threads: &[ThreadFront]) -> Result<Vec<PythonThr
     Ok(own)
 }
 
-/// The threads of all interpreters that are shown, by their ids, in the order of the interpreters and of their chains. The
-/// one error is want of memory.
+/// The threads of all interpreters that are shown, by their ids, in the order of the interpreters and of their chains.
+/// The one error is want of memory.
 pub fn python_threads(
     alloc: Global,
     interpreters: &[SalvagedInterpreter],

@@ -28,7 +28,8 @@ pub fn tasks_value(alloc: Global, told: &MemoryTold) -> Result<Value, AllocError
     }
 }
 
-/// The exceptions of threads, by interpreters (`exception_texts::exceptions_value`), or null. The one error is want of memory.
+/// The exceptions of threads, by interpreters (`exception_texts::exceptions_value`), or null. The one error is want of
+/// memory.
 pub fn exceptions_value(alloc: Global, told: &MemoryTold) -> Result<Value, AllocError>
     ensures { IfOk result (λ value. view value ≡ exceptions_tree_if told.now.exceptions) }
 {

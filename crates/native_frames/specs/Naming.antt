@@ -1,5 +1,6 @@
 -- The functions of frames: of the symbols of a frame's file the one that covers the address, and is the nearest.
-use Rattle.std.specs.Prelude.{◌≡◌, ℕ, ◌+◌, ◌-◌, ◌%◌, ◌^◌, if◌then◌else◌, List, [], ◌∷◌, Option, Some, None, option_copied}
+use Rattle.std.specs.Prelude.{◌≡◌, ℕ, ◌+◌, ◌-◌, ◌%◌, ◌^◌, if◌then◌else◌, List, [], ◌∷◌, Option, Some, None}
+use Rattle.std.specs.Prelude.{option_copied}
 use Rattle.std.specs.Prelude.{option_and_then, option_map, slice_get}
 use Rattle.elf64_core.specs.Symbols.{SymbolEntry}
 use Rattle.covering_symbols.specs.Covering.{AreImageSymbols, Covering}

@@ -1,6 +1,7 @@
 -- File tables, as Linux writes them into a core (`NT_FILE` of `elf.h`): of each entry where its mapping starts and
 -- ends, where that begins in the file, in pages, and the file's path. A place past 2^64 - 1 counts as that.
-use Rattle.std.specs.Prelude.{◌≡◌, ℕ, ◌+◌, ◌*◌, ◌-◌, ◌^◌, ◌≤◌, min, Bool, true, false, List, [], ◌∷◌, ◌++◌, length, drop}
+use Rattle.std.specs.Prelude.{◌≡◌, ℕ, ◌+◌, ◌*◌, ◌-◌, ◌^◌, ◌≤◌, min, Bool, true, false, List, [], ◌∷◌, ◌++◌, length}
+use Rattle.std.specs.Prelude.{drop}
 use Rattle.elf64_core.specs.Fields.{u64_in}
 use Rattle.elf64_core.specs.Notes.{Noted}
 use Rattle.image_memory.specs.FileTables.{NamesThen, names_start}

@@ -1,8 +1,8 @@
 //! Native stacks over the files that a process had mapped, with the names of functions.
 //!
-//! Which files were mapped, and where, the file tables of a core say, and the auxiliary vector where the vdso is; a file
-//! is at hand where its bytes are handed in under its path. A stack is that of `core_unwind`: by tables, and by marks
-//! where none covers an address. What follows a guess stands apart, and is no part of it.
+//! Which files were mapped, and where, the file tables of a core say, and the auxiliary vector where the vdso is; a
+//! file is at hand where its bytes are handed in under its path. A stack is that of `core_unwind`: by tables, and by
+//! marks where none covers an address. What follows a guess stands apart, and is no part of it.
 #![tactic(auto)]
 
 mod escape;

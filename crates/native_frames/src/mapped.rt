@@ -1,7 +1,8 @@
 //! The files that a process had mapped, with their bytes where they are at hand.
 ghost use Rattle.std.specs.Prelude.{◌≡◌, ◌++◌, IfOk, OnOk, map, option_copied};
 ghost use Rattle.elf64_core.specs.Notes.{noted};
-ghost use Rattle.native_frames.specs.Mapped.{AreMapped, bytes_under, mapping_shown, mappings_from, names_of, row_mapping};
+ghost use Rattle.native_frames.specs.Mapped.{AreMapped, bytes_under, mapping_shown, mappings_from, names_of};
+ghost use Rattle.native_frames.specs.Mapped.{row_mapping};
 ghost use Rattle.native_frames.specs.Mapped.{vdso_mappings, vdso_names};
 ghost use Rattle.image_memory.specs.Notes.{is_table};
 ghost use Rattle.native_frames.specs.Tables.{AddsRows, RowsSay, row_of};

@@ -1,6 +1,7 @@
 //! The lines of a native stack.
 ghost use Rattle.std.specs.Prelude.{◌≡◌, ◌<◌, ◌++◌, OnOk, length, slice_get, string_bytes};
-ghost use Rattle.native_frames.specs.Text.{base_behind, base_name, end_text, file_text, first_frames, frame_text, frames_text};
+ghost use Rattle.native_frames.specs.Text.{base_behind, base_name, end_text, file_text, first_frames, frame_text};
+ghost use Rattle.native_frames.specs.Text.{frames_text};
 ghost use Rattle.native_frames.specs.Text.{found_text, function_text, guess_line, guess_text, guess_word, last_frames};
 ghost use Rattle.native_frames.specs.Text.{lead_text, limit_text, mark_text, more_text};
 ghost use Rattle.native_frames.specs.Text.{no_file_text, place_text, refusal_text, stack_text, where_text};
@@ -315,8 +316,8 @@ pub(crate) fn last_frames(frames: &[NativeFrame], limit: usize) -> &[NativeFrame
 }
 
 /// Appends the lines of a stack: by what it was guessed, if it was, its first `limit` frames, how many stand between,
-/// and its last `limit`, and how it ends, where it is not whole. `files` are the paths by which frames name files; behind
-/// a guess each line says so. The one error is want of memory.
+/// and its last `limit`, and how it ends, where it is not whole. `files` are the paths by which frames name files;
+/// behind a guess each line says so. The one error is want of memory.
 pub fn push_stack(
     alloc: Global,
     text: &mut String,

@@ -4,7 +4,8 @@ ghost use Rattle.serde_json.specs.View.{view};
 ghost use Rattle.native_frames.specs.Text.{address_text, guess_text};
 ghost use Rattle.native_frames.specs.Threads.{stack_shown};
 ghost use Rattle.native_frames.specs.Trees.{address_tree, end_address, end_kind, file_tree, frame_tree, frames_tree};
-ghost use Rattle.native_frames.specs.Trees.{end_tree, function_name_tree, mark_tree, missing_tree, name_tree, offset_tree};
+ghost use Rattle.native_frames.specs.Trees.{end_tree, function_name_tree, mark_tree, missing_tree, name_tree};
+ghost use Rattle.native_frames.specs.Trees.{offset_tree};
 ghost use Rattle.native_frames.specs.Trees.{place_address, place_file, stack_tree};
 
 use crate::files::path_of;
@@ -204,7 +205,8 @@ fn end_value(
 }
 
 /// A stack as a JSON value: `frames`, its first `limit` frames; `between`, how many stand behind them; `last`, its last
-/// `limit`; `end`, how it ends; `guess`, by what its newest frame was guessed, or null. `files` are the paths by which frames name files.
+/// `limit`; `end`, how it ends; `guess`, by what its newest frame was guessed, or null. `files` are the paths by which
+/// frames name files.
 ///
 /// The keys of an object stand in the order of their bytes. The one error is want of memory.
 pub fn stack_value(

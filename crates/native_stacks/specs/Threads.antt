@@ -67,7 +67,8 @@ ThreadThen (Some known) here behind is_first left threads =
     × behind false (left_behind left t) others
 
 -- the threads of a process: one for each status record, in the order of the notes
-unfoldable pub AreThreads : ElfMachine → List PythonThread → List Mapping → (code_bits : ℕ) → Memory → (strict : Bool) → List Noted
+unfoldable pub AreThreads : ElfMachine → List PythonThread → List Mapping → (code_bits : ℕ) → Memory
+    → (strict : Bool) → List Noted
     → (is_first : Bool) → (left : ℕ) → List NativeShown → Type 0
 AreThreads machine pythons mappings code_bits m strict [] is_first left threads = threads ≡ []
 AreThreads machine pythons mappings code_bits m strict (note ∷ notes) is_first left threads =
@@ -78,7 +79,8 @@ AreThreads machine pythons mappings code_bits m strict (note ∷ notes) is_first
 -- ---- as it is read
 
 -- the thread of a note, if that is a status record
-abbrev pub IsThreadOf : ElfMachine → List Mapping → (code_bits : ℕ) → Memory → (strict is_first : Bool) → (left : ℕ) → List ℕ
+abbrev pub IsThreadOf : ElfMachine → List Mapping → (code_bits : ℕ) → Memory → (strict is_first : Bool)
+    → (left : ℕ) → List ℕ
     → Option ThreadShown → Option NativeShown → Type 0
 IsThreadOf machine mappings code_bits m strict is_first left status None thread = thread ≡ None
 IsThreadOf machine mappings code_bits m strict is_first left status (Some known) thread =

@@ -66,7 +66,8 @@ fn halves_of<'a, P: ProcessMemory>(
 ) -> Result<Halves, AllocError>
     requires kept { AreKept mappings.now kept.old }
     ensures is { Reading thread_most (P.seen process.old) (P.seen process.new) (λ m. IfOk result (λ halves.
-        HasStacks mappings.now code_bits m strict left standing (stack_shown_if halves.stack) (stack_shown_if halves.guessed))) }
+        HasStacks mappings.now code_bits m strict left standing (stack_shown_if halves.stack)
+        (stack_shown_if halves.guessed))) }
     ensures kept { AreKept mappings.now kept.new }
 {
     match standing {
@@ -272,8 +273,8 @@ fn read_stacks<P: ProcessMemory>(
 /// it (`covering_symbols`). A thread has at most 2^20 frames, and behind the 2^22nd of the process each thread its
 /// newest one. Memory is read at most 8549 times for a frame.
 ///
-/// What is right is the answer, where the tables of the files that were mapped ascend. The one error is want of memory, as
-/// which a file table counts that is none, which those of a core are not.
+/// What is right is the answer, where the tables of the files that were mapped ascend. The one error is want of memory,
+/// as which a file table counts that is none, which those of a core are not.
 pub fn read_native_stacks<P: ProcessMemory>(
     alloc: Global,
     core: &CoreDump,

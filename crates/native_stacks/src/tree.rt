@@ -88,8 +88,8 @@ fn threads_value(
 }
 
 /// Native stacks as a JSON value: an array of objects, one a thread, in order. `crashed`: whether it got the signal;
-/// `python`: whose it is, as `thread_registers::threads_value` has it; `stack`: its stack (`stack_value`), or null where
-/// its record does not tell where it stands; `guessed`: what follows that by a guess, or null; `system_id`.
+/// `python`: whose it is, as `thread_registers::threads_value` has it; `stack`: its stack (`stack_value`), or null
+/// where its record does not tell where it stands; `guessed`: what follows that by a guess, or null; `system_id`.
 ///
 /// The keys of an object stand in the order of their bytes. The one error is want of memory.
 pub fn native_value(alloc: Global, limit: usize, stacks: &NativeStacks) -> Result<Value, AllocError>

@@ -1,5 +1,5 @@
-//! Versions of Python, and where the fields of an interpreter's records are: how a version is spelled, a layout, when it
-//! is sound, and the versions that it covers.
+//! Versions of Python, and where the fields of an interpreter's records are: how a version is spelled, a layout, when
+//! it is sound, and the versions that it covers.
 #![tactic(auto)]
 
 mod error;

@@ -1,5 +1,6 @@
 -- The interpreters of a process that are shown, and how each was found.
-use Rattle.std.specs.Prelude.{◌≡◌, ℕ, zero, suc, ◌+◌, ◌*◌, ◌-◌, ◌^◌, ◌≤◌, min, nat_eq, nat_le, nat_lt, Bool, true, false}
+use Rattle.std.specs.Prelude.{◌≡◌, ℕ, zero, suc, ◌+◌, ◌*◌, ◌-◌, ◌^◌, ◌≤◌, min, nat_eq, nat_le, nat_lt, Bool, true}
+use Rattle.std.specs.Prelude.{false}
 use Rattle.std.specs.Prelude.{not, ◌||◌, ◌&&◌, if◌then◌else◌, List, [], ◌∷◌, ◌++◌, length, map, slice_get, sum_by, take}
 use Rattle.std.specs.Prelude.{option_map, Option, Some, None}
 use Rattle.std.specs.Prelude.{Result, Ok, Err}

@@ -44,8 +44,8 @@ pub struct Fronts {
     pub looked: Looked,
 }
 
-/// The threads of each of some interpreters, in order, as `get_threads_front` has them for `limit`, at most 4096. What one
-/// of them meets is no longer left for the others, of 4,194,304 members. The one error is out of memory.
+/// The threads of each of some interpreters, in order, as `get_threads_front` has them for `limit`, at most 4096. What
+/// one of them meets is no longer left for the others, of 4,194,304 members. The one error is out of memory.
 pub fn read_interpreters<P: ProcessMemory>(
     alloc: Global,
     process: &mut P,

@@ -25,8 +25,8 @@ pub enum LockState {
     Unreadable { addr: u64, len: u64 },
 }
 
-/// Whether a thread holds the lock of its interpreter: its id is the holder's. None does where the holder is 0, though a
-/// report marks threads of that id then.
+/// Whether a thread holds the lock of its interpreter: its id is the holder's. None does where the holder is 0, though
+/// a report marks threads of that id then.
 pub fn holds_lock(lock: LockState, thread: &ThreadFront) -> bool
     ensures { result ≡ holds_lock lock thread.now }
 {

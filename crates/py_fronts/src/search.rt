@@ -123,9 +123,9 @@ fn whole_head(end: ChainEnd, head: u64) -> Option<u64>
     }
 }
 
-/// Tries an address that is found by search alone: it is an interpreter's where a map holds it and its first thread, each
-/// names the other, and the chain of its threads is whole. What can't be read is none. The one error is out of memory.
-/// At most 3 reads, and one for each thread that is walked.
+/// Tries an address that is found by search alone: it is an interpreter's where a map holds it and its first thread,
+/// each names the other, and the chain of its threads is whole. What can't be read is none. The one error is out of
+/// memory. At most 3 reads, and one for each thread that is walked.
 pub fn try_address<M: ContainsAddr, P: ProcessMemory>(
     alloc: Global,
     maps: &M,

@@ -49,8 +49,8 @@ fn add_there<P: ProcessMemory>(
     Ok(())
 }
 
-/// Those of `count` words of 8 bytes, at most 512, from an address on that are in memory, in order. The one error is out
-/// of memory. At most one read, where all of them are there, and else one more for each.
+/// Those of `count` words of 8 bytes, at most 512, from an address on that are in memory, in order. The one error is
+/// out of memory. At most one read, where all of them are there, and else one more for each.
 pub fn piece_words<P: ProcessMemory>(
     alloc: Global,
     process: &mut P,

@@ -252,8 +252,8 @@ fn read_standing<P: ProcessMemory>(
     }
 }
 
-/// What stands for the members at some addresses, in order; the texts of their frames share their bytes with those of the
-/// same characters that were met before. The one error is want of memory. At most 526 reads for
+/// What stands for the members at some addresses, in order; the texts of their frames share their bytes with those of
+/// the same characters that were met before. The one error is want of memory. At most 526 reads for
 /// each, and those of its locals.
 pub(crate) fn read_standings<P: ProcessMemory>(
     alloc: Global,

@@ -66,8 +66,8 @@ table_told l m code = do
   length ← word_at m (table + l.bytes.length)
   end_told l m table length
 
--- an instruction stands at most one code unit before those of code, which begin at `start`, and in the first 2^24 bytes of
--- them
+-- an instruction stands at most one code unit before those of code, which begin at `start`, and in the first 2^24 bytes
+-- of them
 abbrev pub stands_in : ℕ → ℕ → ℕ → Bool
 stands_in code start at = nat_le (code + start) (at + 2) && nat_lt at (code + start + 16777216)
 

@@ -53,9 +53,9 @@ fn read_stacks<P: ProcessMemory>(
 /// the local's address in a width of 128 times `dump_locals`, at most 2^63 - 1, with no visit counted before; where
 /// that has a fault, it is `?`, and that is no error. Want of memory is one.
 ///
-/// No more reads than `get_stack_traces` may make, 10, 12 for each slot of a dict that is looked at for names, and 8 for
-/// each visit of a value. All visits together are no more than 4096 for each local that 4096 threads of 4096 frames may
-/// have. Where the stacks have a fault neither a name nor a value is read. Where locals are not asked for there are
+/// No more reads than `get_stack_traces` may make, 10, 12 for each slot of a dict that is looked at for names, and 8
+/// for each visit of a value. All visits together are no more than 4096 for each local that 4096 threads of 4096 frames
+/// may have. Where the stacks have a fault neither a name nor a value is read. Where locals are not asked for there are
 /// none, and nothing is read of them.
 pub fn get_stack_over<P: ProcessMemory>(
     alloc: Global,

@@ -357,8 +357,8 @@ fn lost_tasks(error: NamesError) -> Result<TasksOf, NamesError>
 /// records tell of is refused.
 ///
 /// A chain has at most 16384 members, and fewer where there are more than 64 tasks, so that all chains have at most
-/// 2^20. More than 65536 registered objects are `TooMany`, and so are more than `slots` entries of all sets together, or
-/// than 2^20. The one error is want of memory.
+/// 2^20. More than 65536 registered objects are `TooMany`, and so are more than `slots` entries of all sets together,
+/// or than 2^20. The one error is want of memory.
 pub fn read_tasks<P: ProcessMemory>(
     alloc: Global,
     process: &mut P,

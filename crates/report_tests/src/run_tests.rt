@@ -49,8 +49,8 @@ const ADDRESSES: &[u8] = b"0x9999\n";
 const ROOM: u32 = 1000;
 
 /// A command over files that serve: its words, which for `pysalvage` begin with its name, and the files that it asks
-/// for, in order, each with blanks between them; how many bytes it prints; and what it prints before the cause where its
-/// core is cut, and with the cause where its image is, if it goes on then.
+/// for, in order, each with blanks between them; how many bytes it prints; and what it prints before the cause where
+/// its core is cut, and with the cause where its image is, if it goes on then.
 struct Row {
     words: &'static str,
     files: &'static str,

@@ -99,8 +99,8 @@ fn add_ordered(
 
 /// What is left of some interpreters: an array, in the order of `salvage_texts::salvaged_text`, each an object with its
 /// lock, its threads and how their chain ends, each thread with its marks, its frames and how these end, and with the
-/// name that is told of its id in its interpreter, or null. A local has the text and the tree that are kept for the address
-/// of its value, or null.
+/// name that is told of its id in its interpreter, or null. A local has the text and the tree that are kept for the
+/// address of its value, or null.
 ///
 /// The keys of an object stand in the order of their bytes; an address is a text in hexadecimal digits, and an end, a
 /// lock or a cause is an object with its kind. The one error is want of memory.

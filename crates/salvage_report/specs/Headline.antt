@@ -133,8 +133,8 @@ pub record SaysTasks (s : Salvage) (told : Told) (old new : SinkSeen) : Type 0 w
       has.left.salvaged.interpreters.items tasks.items
 
 -- The exceptions of the threads that are shown: what each raises and handles, and all that this leads to, each once
--- (`IsTold` of py_exceptions), and the last one of each interpreter that no code handled (`IsLast`), by the records that
--- the tables have for the version, or that these don't describe it.
+-- (`IsTold` of py_exceptions), and the last one of each interpreter that no code handled (`IsLast`), by the records
+-- that the tables have for the version, or that these don't describe it.
 pub record SaysExceptions (s : Salvage) (told : Told) (old new : SinkSeen) : Type 0 where
   pub has : HasSalvaged s told old new
   pub exceptions : Vec InterpreterExceptions Global
@@ -171,8 +171,8 @@ pub record SaysStacks (s : Salvage) (told : Told) (old new : SinkSeen) : Type 0 
       (records_of has.tables has.opened.version) (memory_in has.opened.dumped) has.left.salvaged.interpreters.items
       natives stacks
 
--- The objects of each interpreter that is shown, by class: those of the lists of the collector, up to where each is torn
--- or cut (`IsHeapAt` of py_heap), by the places that the tables have for the version and the records for classes.
+-- The objects of each interpreter that is shown, by class: those of the lists of the collector, up to where each is
+-- torn or cut (`IsHeapAt` of py_heap), by the places that the tables have for the version and the records for classes.
 pub record SaysHeap (s : Salvage) (told : Told) (old new : SinkSeen) : Type 0 where
   pub has : HasSalvaged s told old new
   pub heaps : Heaps
@@ -182,8 +182,8 @@ pub record SaysHeap (s : Salvage) (told : Told) (old new : SinkSeen) : Type 0 wh
 
 -- The values of the locals of the frames that are shown, by so many `-l`: those of memory, by the types that the
 -- symbols of the process's images name, and with the attributes of instances where the records that the tables have for
--- the version say how these have their dicts (`repr_at` of py_reprs), and of each its text and, where JSON is asked for,
--- its JSON (`Writes` of repr_texts, `IsJson` of repr_json).
+-- the version say how these have their dicts (`repr_at` of py_reprs), and of each its text and, where JSON is asked
+-- for, its JSON (`Writes` of repr_texts, `IsJson` of repr_json).
 pub record SaysValues (s : Salvage) (told : Told) (old new : SinkSeen) : Type 0 where
   pub has : HasSalvaged s told old new
   pub values : LocalValues

@@ -44,8 +44,8 @@ abbrev pub IsStoppedAtOne : Result (Vec ℕ Global) (Trouble Cause) → Type 0
 IsStoppedAtOne (Err (Caused cause)) = cause_status cause ≡ 1
 IsStoppedAtOne _ = ⊥
 
--- what came of a run, and what the stream gained: where the words don't ask for it, or the status isn't 1, nothing; else
--- an object that tells of refused reads, or memory ran out
+-- what came of a run, and what the stream gained: where the words don't ask for it, or the status isn't 1, nothing;
+-- else an object that tells of refused reads, or memory ran out
 pub data TellsAfter (asked : Result Asked ArgsError) (outcome result : Result (Vec ℕ Global) (Trouble Cause))
     (old new : SinkSeen) : Type 0 where
   untold : result ≡ outcome → new ≡ old → (AsksFor asked → IsStoppedAtOne outcome → ⊥)

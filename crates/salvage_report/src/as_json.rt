@@ -164,8 +164,8 @@ fn pretty(alloc: Global, value: &Value) -> Result<String, AllocError>
 }
 
 /// All of it as one object, on lines, with a line feed at the end. The keys stand in the order of their bytes. The key
-/// of a section that isn't asked for is null. Of a native stack the first and the last `limit` frames are there. The one
-/// error is want of memory.
+/// of a section that isn't asked for is null. Of a native stack the first and the last `limit` frames are there. The
+/// one error is want of memory.
 pub(crate) fn left_json(alloc: Global, limit: usize, left: &Left) -> Result<String, AllocError>
     requires { HasNoFloat left.now.values }
     ensures { IfOk result (λ text. string_bytes text ≡ left_json limit left.now) }

@@ -69,11 +69,11 @@ fn outcome_of<'a, F: Files>(
 /// Does what the words ask for, and answers the status with which a program ends.
 ///
 /// The words are those of `salvage_words::read_words`, the program's name first. They are judged. The files that they
-/// name are read in order: the file of records, where there is one, the core's, the layout file and those of the images.
-/// The records are checked, then the layouts. The process of the core is opened as for a report (`core_stacks::report`)
-/// up to its layout. What is left of its interpreters is read over the memory of the core and its images
-/// (`py_fronts::salvage`), with the sections that are asked for, of which none has a status of its own. The whole text
-/// is written to `out`.
+/// name are read in order: the file of records, where there is one, the core's, the layout file and those of the
+/// images. The records are checked, then the layouts. The process of the core is opened as for a report
+/// (`core_stacks::report`) up to its layout. What is left of its interpreters is read over the memory of the core and
+/// its images (`py_fronts::salvage`), with the sections that are asked for, of which none has a status of its own. The
+/// whole text is written to `out`.
 ///
 /// Where `--help` or `--version` is asked for alone, the text is the help, or the program's version, and no file is
 /// read. Under each status but 0 one line, `pysalvage: ` and the cause, is written to `err`, and a fault of `err`
@@ -126,9 +126,10 @@ pub fn run<F: Files, S: Sink, E: Sink>(
 
     ensures tasks { (s : Salvage) → words_asked (texts words.now) ≡ Some (salvages s) → s.sections.tasks ≡ true
         → result ≡ 0 → SaysTasks s (F.seen files.old).told (S.seen out.old) (S.seen out.new) }
-    // where they are asked for, the exceptions that the threads that are shown raise and handle are told, and all that these
-    // lead to
-    ensures exceptions { (s : Salvage) → words_asked (texts words.now) ≡ Some (salvages s) → s.sections.exceptions ≡ true
+    // where they are asked for, the exceptions that the threads that are shown raise and handle are told, and all that
+    // these lead to
+    ensures exceptions { (s : Salvage) → words_asked (texts words.now) ≡ Some (salvages s)
+        → s.sections.exceptions ≡ true
         → result ≡ 0 → SaysExceptions s (F.seen files.old).told (S.seen out.old) (S.seen out.new) }
 
     ensures waits { (s : Salvage) → words_asked (texts words.now) ≡ Some (salvages s) → s.sections.waits ≡ true

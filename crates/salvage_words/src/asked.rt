@@ -156,9 +156,9 @@ fn salvage_words(alloc: Global, words: &[String]) -> Result<SalvageWords, ArgsEr
 ///
 /// Clap takes the words, in any order that it knows: the core's file; `--layouts` with a value, once; `--records` with
 /// one, at most once; `-n` or `--frames` with a value, at most once, a number from 1 to 4096 in decimal digits (100
-/// unless it is said); `-j` or `--json`, and each section's flag, at most once; `-l` or `--locals`, any number of times;
-/// and the images, none or more, each with a path, the first equals sign, and the name of a file. A bundle as `-lj` and
-/// `--layouts=FILE` are taken, and behind `--` each word is the core's or an image's.
+/// unless it is said); `-j` or `--json`, and each section's flag, at most once; `-l` or `--locals`, any number of
+/// times; and the images, none or more, each with a path, the first equals sign, and the name of a file. A bundle as
+/// `-lj` and `--layouts=FILE` are taken, and behind `--` each word is the core's or an image's.
 ///
 /// - `Refused` exactly where clap does not take the words for that command, the number is none of these, or a word of
 ///   an image has no equals sign.

@@ -165,8 +165,8 @@ pub(crate) fn add_address(list: &mut Vec<u64>, address: Option<u64>) -> Result<(
     }
 }
 
-/// The objects that so many entries stand for, in their order; a weak reference that is not in memory stands for itself.
-/// At most 3 reads for each.
+/// The objects that so many entries stand for, in their order; a weak reference that is not in memory stands for
+/// itself. At most 3 reads for each.
 pub(crate) fn objects_in<P: ProcessMemory>(
     alloc: Global,
     process: &mut P,

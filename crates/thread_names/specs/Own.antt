@@ -1,5 +1,5 @@
--- The name that a thread has in its own dict. That it stands there under `_name` is CPython's (`Lib/threading.py`); that
--- so many slots of it are looked at is this project's rule.
+-- The name that a thread has in its own dict. That it stands there under `_name` is CPython's (`Lib/threading.py`);
+-- that so many slots of it are looked at is this project's rule.
 use Rattle.std.specs.Prelude.{ℕ, zero, suc, Option, Some, None, List, [], ◌∷◌, take, codes, bytes_eq, encode_utf8_all}
 use Rattle.std.specs.Prelude.{Ok, Err, if◌then◌else◌}
 use Rattle.process_memory.specs.Memory.{Memory, Found, ◌>>=◌}

@@ -1,5 +1,6 @@
 -- The names of an interpreter's threads, as they are told: of each thread the name that its object has, of the last
--- entry under its id in the dict of threads that the interpreter's module `threading` keeps (CPython's Lib/threading.py).
+-- entry under its id in the dict of threads that the interpreter's module `threading` keeps (CPython's
+-- Lib/threading.py).
 use Rattle.std.specs.Prelude.{◌≡◌, ℕ, List, map, Option, Some, None, option_map, MatchOption, Result}
 use Rattle.std.specs.Prelude.{Ok, Err}
 use Rattle.std.specs.BTreeMap.{BTreeMap, get}

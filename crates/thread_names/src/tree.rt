@@ -1,7 +1,8 @@
 //! The names as JSON.
 ghost use Rattle.std.specs.Prelude.{◌≡◌, IfOk, string_bytes};
 ghost use Rattle.serde_json.specs.View.{view};
-ghost use Rattle.thread_names.specs.Trees.{address_text, fault_tree, fault_word, interpreter_tree, name_tree, names_tree};
+ghost use Rattle.thread_names.specs.Trees.{address_text, fault_tree, fault_word, interpreter_tree, name_tree};
+ghost use Rattle.thread_names.specs.Trees.{names_tree};
 ghost use Rattle.thread_names.specs.Trees.{thread_fault_tree, thread_fault_word, thread_tree, threads_tree};
 
 use crate::names::{InterpreterNames, ThreadName};
@@ -106,8 +107,8 @@ fn interpreter_value(alloc: Global, names: &InterpreterNames) -> Result<Value, A
 }
 
 /// The names as a JSON value: an array of an object for each interpreter, in order, with its address, its threads, each
-/// an object with its id, its name or null, and null or a word that says why that can't be read; how many slots may have
-/// a thread whose id is not known; and null or a word that says why no name is told.
+/// an object with its id, its name or null, and null or a word that says why that can't be read; how many slots may
+/// have a thread whose id is not known; and null or a word that says why no name is told.
 ///
 /// The keys of an object stand in the order of their bytes. The one error is want of memory.
 pub fn names_value(alloc: Global, names: &[InterpreterNames]) -> Result<Value, AllocError>
