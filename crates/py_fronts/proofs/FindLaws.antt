@@ -62,7 +62,7 @@ headed_is c l m a h e =
     let inside = lies_by_test (c a) (headed_by c l m a (threads_head l m a)) h e in
     headed_found c l m a h (threads_head l m a) inside.0 refl inside.1
 
-whole_by : (e : Ending) (head h : ℕ) → whole_head e head ≡ Some h → (e ≡ Whole) × (head ≡ h)
+pub whole_by : (e : Ending) (head h : ℕ) → whole_head e head ≡ Some h → (e ≡ Whole) × (head ≡ h)
 whole_by Whole head h s = (refl, let k : head ≡ h = cc in k)
 whole_by Cut head h s = absurd (cc)
 whole_by (Broken why) head h s = absurd (cc)
@@ -74,7 +74,7 @@ shown_by true c l m a h (Some head) is e =
     let whole = whole_by (threads_front l a m head).ending head h e in
     record { headed = headed_is c l m a h (is ∙ ap Some whole.1); whole = λ by_search. ap (λ n. (threads_front l a m n).ending) (sym whole.1) ∙ whole.0 }
 
-shown_is : (searched : Bool) (c : ℕ → Bool) (l : Layout) (m : Memory) (a h : ℕ) → shown_head searched c l m a ≡ Some h → IsShown c l m (record { address = a; head = h; searched = searched })
+pub shown_is : (searched : Bool) (c : ℕ → Bool) (l : Layout) (m : Memory) (a h : ℕ) → shown_head searched c l m a ≡ Some h → IsShown c l m (record { address = a; head = h; searched = searched })
 unfolding shown_head
 shown_is searched c l m a h e = shown_by searched c l m a h (headed_at c l m a) refl e
 
@@ -92,7 +92,7 @@ not_behind xs x h e n =
     let back = other_way x.address h.address n in
     list_any-append (λ (one : FoundInterpreter). nat_eq one.address x.address) xs (h ∷ []) ∙ rw (e, back) refl
 
-once_more : (xs : List FoundInterpreter) (h : FoundInterpreter) → EachOnce xs → is_found xs h.address ≡ false → EachOnce (xs ++ h ∷ [])
+pub once_more : (xs : List FoundInterpreter) (h : FoundInterpreter) → EachOnce xs → is_found xs h.address ≡ false → EachOnce (xs ++ h ∷ [])
 once_more [] h once new = (refl, tt)
 once_more (x ∷ xs) h once new =
     let apart = neither (nat_eq x.address h.address) (is_found xs h.address) new in
