@@ -31,7 +31,7 @@ ROOT = Path(pages.ROOT)
 LAYOUTS = Path(places.LAYOUTS)
 
 PAGES = ("COMMANDS", "CORES", "DIFFERENCES", "DUMP", "FLEET", "HANDLER", "HOSTILE", "LAYOUTS", "MEASURES", "MERGE", "MESSAGES", "REACH", "SALVAGE", "SAMPLE", "SLIM", "SPEED", "TOOL",
-         "TRIAGE", "WALK")
+         "TRIAGE", "USAGE", "WALK")
 """The pages of docs for users."""
 
 TEXTS = ("README.md", "LICENSE", "NOTICE", "CHANGELOG.md", "SECURITY.md")

@@ -255,7 +255,7 @@ def made_up_number(run: Run, tree: Dict[str, Any]) -> Optional[str]:
 
 
 def fault_of_salvage(run: Run, out: bytes) -> Optional[str]:
-    """JSON must have what docs/SALVAGE.md says, and a text must be that of its JSON."""
+    """JSON must have what docs/USAGE.md says, and a text must be that of its JSON."""
     limit, sections = frames_asked(run.words), sections_asked(run.words)
     if any(re.fullmatch(r"--json|-l*j.*", it) for it in options_of(run.words)):
         return made_up_number(run, tree_of(out, limit, sections))

@@ -1,4 +1,4 @@
-"""What the JSON of `pysalvage` has to have, and the text of the same core, by docs/SALVAGE.md."""
+"""What the JSON of `pysalvage` has to have, and the text of the same core, by docs/USAGE.md."""
 
 import json
 import re

@@ -1,4 +1,4 @@
-"""What the sections of `pysalvage` have to have in its JSON, and in its text, by docs/SALVAGE.md."""
+"""What the sections of `pysalvage` have to have in its JSON, and in its text, by docs/USAGE.md."""
 
 import re
 from typing import Any, Collection, Dict, List, Optional, Sequence, Tuple

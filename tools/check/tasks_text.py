@@ -1,4 +1,4 @@
-"""The text of the tasks of asyncio, as docs/SALVAGE.md has it, by what `pysalvage` told of them as JSON."""
+"""The text of the tasks of asyncio, as docs/USAGE.md has it, by what `pysalvage` told of them as JSON."""
 
 from typing import Any, Dict, Iterator, List, Optional
 

@@ -1,4 +1,4 @@
-"""Runs of `pysalvage` on broken chains of which docs/SALVAGE.md tells the answer: as JSON, and by that as a text."""
+"""Runs of `pysalvage` on broken chains of which docs/USAGE.md tells the answer: as JSON, and by that as a text."""
 
 from dataclasses import dataclass, replace
 from random import Random

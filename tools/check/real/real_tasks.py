@@ -9,7 +9,7 @@ its state, what it waits for, and the chain of its coroutines with functions, fi
 exactly these tasks; and of a core as cores are usually written the tool is to tell the same. So it is where sub-interpreters have loops, and over
 uvloop where that is installed. A loop that a signal from outside cuts at full speed has each of its workers, and no chain that the
 program can't have; a process without asyncio has no tasks. Of some Pythons one with 20,000 tasks is told too, within 20 seconds. Copies of a core whose memory is broken at many places by chance are to end, within 20 seconds too, with tasks in the form
-that docs/SALVAGE.md has, or with a status and a line. The layouts and the records are the stored ones. The status is 0 exactly where nothing that was tried failed.
+that docs/USAGE.md has, or with a status and a line. The layouts and the records are the stored ones. The status is 0 exactly where nothing that was tried failed.
 """
 
 import argparse

@@ -1,6 +1,6 @@
 """The tasks of asyncio as `pysalvage --tasks` writes them as text: of many tasks its JSON is five times as long, and takes more memory.
 
-What may stand in such a line is in docs/SALVAGE.md. Names, functions, files and types have no quote and no backslash of their own, and
+What may stand in such a line is in docs/USAGE.md. Names, functions, files and types have no quote and no backslash of their own, and
 nothing that ends a line: each such character is escaped as `\\u{..}`.
 """
 
