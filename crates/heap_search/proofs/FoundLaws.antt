@@ -1,5 +1,5 @@
 -- What is found is of the process.
-use Rattle.std.proofs.Common.{◌≡◌, ℕ, ◌+◌, ◌<◌, ◌≤◌, Bool, true, false, List, [], ◌∷◌, ◌++◌}
+use Rattle.std.proofs.Common.{◌≡◌, ℕ, ◌<◌, Bool, true, false, List, [], ◌∷◌, ◌++◌}
 use Rattle.std.proofs.Common.{length, refl, sym, subst, ◌∙◌, ap, arith, length-append}
 use Rattle.std.specs.Prelude.{Ok, Err, Option, Some, None, Result, IfOk, nat_lt, if◌then◌else◌}
 use Rattle.std.proofs.lemmas.Bool.Decides.{nat_tests}
@@ -16,7 +16,7 @@ use Rattle.py_fronts.proofs.FindLaws.{once_more, shown_is}
 use Rattle.heap_search.specs.declared.search.HeapSearch.{HeapSearch}
 use Rattle.heap_search.specs.Known.{has_known}
 use Rattle.heap_search.specs.OfProcess.{AreOfProcess, IsOfProcess}
-use Rattle.heap_search.specs.Search.{after_looks, finds_with, look_at, look_within, search_at, search_of, search_result}
+use Rattle.heap_search.specs.Search.{after_looks, look_at, look_within, search_at, search_result}
 use Rattle.heap_search.specs.Search.{taken_by, taken_head}
 
 module _ (c : ℕ → Bool) (l : Layout) (m : Memory) (pointers : List ℕ) (class : ℕ) where

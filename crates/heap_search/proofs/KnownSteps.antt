@@ -1,5 +1,5 @@
 -- Whether a thread is known, and the walk that looks for one that is.
-use Rattle.std.proofs.Common.{◌≡◌, ◌≢◌, ℕ, zero, suc, ◌+◌, ◌-◌, ◌*◌, ◌<◌, ◌≤◌, Bool, true, false, List, [], ◌∷◌, ◌++◌}
+use Rattle.std.proofs.Common.{◌≡◌, ◌≢◌, ℕ, suc, ◌+◌, ◌-◌, ◌*◌, ◌<◌, ◌≤◌, Bool, true, false, List, [], ◌∷◌, ◌++◌}
 use Rattle.std.proofs.Common.{refl, sym, ◌∙◌, ap, arith, length, length-append}
 use Rattle.std.proofs.Math.Nat.{sub-zero}
 use Rattle.std.proofs.lemmas.List.Folds.{list_any-append}
@@ -16,7 +16,6 @@ use Rattle.py_stacks.specs.Threads.{thread_limit}
 use Rattle.py_stacks.specs.declared.error.StackError.{StackError}
 use Rattle.py_stacks.specs.declared.error.StackError.TheVariants as stack
 use Rattle.py_fronts.specs.declared.chain_end.ChainEnd.{ChainEnd}
-use Rattle.py_fronts.specs.declared.thread_front.Thread.{Thread}
 use Rattle.py_fronts.specs.declared.thread_front.Thread.TheVariants.{At, Broken}
 use Rattle.py_fronts.specs.Answers.{IsOrNoMemory}
 use Rattle.py_fronts.specs.ChainEnds.{ending_of}
@@ -24,7 +23,7 @@ use Rattle.py_fronts.specs.Front.{Break, Ending, Front, behind, front_at}
 use Rattle.py_fronts.specs.Front.Ending.{Whole, Cut}
 use Rattle.py_fronts.specs.ThreadFronts.{ThreadIs, after_record, thread_of, threads_front}
 use Rattle.py_fronts.proofs.FrontLaws.{behind_ends, behind_more, front_end, front_full, front_stop}
-use Rattle.heap_search.specs.Known.{has_known, is_class, is_known, is_known_by}
+use Rattle.heap_search.specs.Known.{has_known, is_among, is_class, is_known, is_known_by, newest_class_at}
 
 -- what can't be read is of no class
 pub unread_class : {T : Type 0} (f : T → Found ℕ) (class : ℕ) (d : Found T) (e : StackError)
@@ -232,3 +231,23 @@ module _ {l : Layout} {pointers : List ℕ} {class i head : ℕ} {s0 s1 : Seen} 
       (reading_then (λ m. e ≡ stack.OutOfMemory)
       (walk_more thread (u64_in thread.items l.thread.next) w some below r refl) k (λ m p h. same ∙ h))
       (omega (arith, member_within thread w some below r)) (λ m h. h)
+
+-- ---- one thread
+
+-- one whose id is no thread pointer
+pub other_id : (l : Layout) (m : Memory) (pointers : List ℕ) (class : ℕ) (thread : List ℕ) (id : ℕ) (among : Bool)
+    → id ≡ u64_in thread l.thread.id → among ≡ is_among pointers id → among ≡ false
+    → false ≡ is_known_by l m pointers class thread
+other_id l m pointers class thread id among e is no_one =
+    let none : is_among pointers (u64_in thread l.thread.id) ≡ false =
+    ap (is_among pointers) (sym e) ∙ sym is ∙ no_one in
+    rw none refl
+
+-- and one whose id is one
+pub same_id : (l : Layout) (m : Memory) (pointers : List ℕ) (class : ℕ) (thread : List ℕ) (id : ℕ) (among : Bool)
+    (r : Result Bool StackError) → id ≡ u64_in thread l.thread.id → among ≡ is_among pointers id → among ≡ true
+    → IsOrNoMemory (is_class class (newest_class_at l m thread)) r
+    → IsOrNoMemory (is_known_by l m pointers class thread) r
+same_id l m pointers class thread id among r e is one h =
+    let some : is_among pointers (u64_in thread l.thread.id) ≡ true = ap (is_among pointers) (sym e) ∙ sym is ∙ one in
+    rw some h

@@ -1,7 +1,8 @@
 -- Pieces of segments, one after another.
 use Rattle.std.proofs.Common.{◌≡◌, ◌≢◌, ℕ, zero, suc, ◌+◌, ◌-◌, ◌*◌, ◌<◌, ◌≤◌, ◌^◌, Bool, true, false, List, [], ◌∷◌, ◌++◌}
-use Rattle.std.proofs.Common.{refl, sym, ◌∙◌, ap, arith, append-nil, append_assoc, length}
-use Rattle.std.specs.Prelude.{All, min, nat_eq, nat_lt, ◌||◌, if◌then◌else◌}
+use Rattle.std.proofs.Common.{refl, sym, subst, ◌∙◌, ap, arith, append-nil, append_assoc, drop, get_or, length}
+use Rattle.std.proofs.lemmas.List.{drop_more}
+use Rattle.std.specs.Prelude.{All, min, nat_eq, nat_lt, if◌then◌else◌}
 use Rattle.std.proofs.lemmas.Bool.Decides.{nat_tests}
 use Rattle.std.proofs.lemmas.List.Elements.{All-append, All-cons, All-nil}
 use Rattle.process_memory.specs.Memory.{Memory}
@@ -102,7 +103,7 @@ there_more m ps p = there_append m ps (p ∷ []) ∙ ap (λ ws. pieces_there m p
 
 pub words_append : (ps qs : List HeapPiece) → words_in (ps ++ qs) ≡ words_in ps + words_in qs
 unfolding words_in
-words_append [] qs = refl
+words_append [] qs = omega arith
 words_append (p ∷ ps) qs = omega (arith, words_append ps qs)
 
 pub words_none : words_in [] ≡ 0
@@ -115,3 +116,103 @@ words_one p = omega arith
 
 pub words_more : (ps : List HeapPiece) (p : HeapPiece) → words_in (ps ++ p ∷ []) ≡ words_in ps + p.count
 words_more ps p = words_append ps (p ∷ []) ∙ ap (λ n. words_in ps + n) (words_one p)
+
+-- ---- a segment, piece by piece
+
+-- the pieces that were added so far, and what is left
+pub record Cutting (start : List HeapPiece) (addr words : ℕ) (pieces : List HeapPiece) (turns at left : ℕ) : Type 0 where
+  pub within : turns ≤ 32768
+  pub place : at + 4096 * turns ≡ addr + 4096 * 32768
+  pub all : pieces ++ pieces_from turns at left ≡ start ++ pieces_from 32768 addr words
+
+pub cutting_init : (start : List HeapPiece) (addr words : ℕ) → Cutting start addr words start 32768 addr words
+cutting_init start addr words = record { within = omega arith; place = refl; all = refl }
+
+module _ {start : List HeapPiece} {addr words : ℕ} {pieces : List HeapPiece} {turns at left : ℕ} where
+  pub cutting_more : (count : ℕ) → Cutting start addr words pieces turns at left → turns ≢ 0 → left ≢ 0
+      → count ≡ min left 512
+      → Cutting start addr words (pieces ++ record { at = at; count = count } ∷ []) (turns - 1) (at + 4096) (left - count)
+  cutting_more count w some more e =
+      let next : turns ≡ suc (turns - 1) = omega arith in
+      record {
+        within = omega (arith, w.within);
+        place = omega (arith, w.place);
+        all = append_assoc pieces (record { at = at; count = count } ∷ []) (pieces_from (turns - 1) (at + 4096) (left - count))
+            ∙ ap (λ ps. pieces ++ ps) (sym (pieces_next (turns - 1) at left count more e))
+            ∙ ap (λ n. pieces ++ pieces_from n at left) (sym next) ∙ w.all;
+      }
+
+  pub cutting_empty : Cutting start addr words pieces turns at left → left ≡ 0
+      → pieces ≡ start ++ pieces_from 32768 addr words
+  cutting_empty w e =
+      sym (append-nil pieces) ∙ ap (λ ps. pieces ++ ps) (sym (pieces_none turns at left e)) ∙ w.all
+
+  pub cutting_done : Cutting start addr words pieces turns at left → turns ≡ 0
+      → pieces ≡ start ++ pieces_from 32768 addr words
+  cutting_done w e =
+      sym (append-nil pieces)
+      ∙ ap (λ ps. pieces ++ ps) (sym (ap (λ n. pieces_from n at left) e ∙ pieces_spent at left)) ∙ w.all
+
+-- ---- segments, one after another
+
+-- one of them is taken
+pub segment_next : (maps : List CoreMapRange) (i : ℕ) (s : CoreMapRange) → i < length maps → s ≡ get_or maps i s
+    → drop i maps ≡ s ∷ drop (i + 1) maps
+segment_next maps i s lt is = drop_more maps i s lt ∙ ap (λ x. x ∷ drop (i + 1) maps) (sym is)
+
+-- the pieces of the segments in front of an index, and how many words may be looked at yet
+pub record Heaping (maps : List CoreMapRange) (pieces : List HeapPiece) (left index : ℕ) : Type 0 where
+  pub all : pieces ++ heap_pieces left (drop index maps) ≡ heap_pieces 16777216 maps
+  pub each : All IsPiece pieces
+  pub few : left ≤ 16777216
+
+pub heaping_init : (maps : List CoreMapRange) → Heaping maps [] 16777216 0
+heaping_init maps = record { all = refl; each = All-nil IsPiece; few = omega arith }
+
+module _ {maps : List CoreMapRange} {pieces : List HeapPiece} {left index : ℕ} where
+  pub heaping_more : (s : CoreMapRange) (n : ℕ) (new : List HeapPiece) → Heaping maps pieces left index
+      → drop index maps ≡ s ∷ drop (index + 1) maps → n ≡ share left s
+      → new ≡ pieces ++ pieces_from 32768 s.segment.addr n → All IsPiece (pieces_from 32768 s.segment.addr n)
+      → Heaping maps new (left - n) (index + 1)
+  heaping_more s n new w next e is near = record {
+    all = ap (λ ps. ps ++ heap_pieces (left - n) (drop (index + 1) maps)) is
+        ∙ append_assoc pieces (pieces_from 32768 s.segment.addr n) (heap_pieces (left - n) (drop (index + 1) maps))
+        ∙ ap (λ ps. pieces ++ ps) (sym (heap_next left s (drop (index + 1) maps) n e))
+        ∙ ap (λ ms. pieces ++ heap_pieces left ms) (sym next) ∙ w.all;
+    each = subst (All IsPiece) (sym is) (All-append IsPiece pieces (pieces_from 32768 s.segment.addr n) w.each near);
+    few = omega (arith, w.few);
+  }
+
+  pub heaping_done : Heaping maps pieces left index → drop index maps ≡ [] → pieces ≡ heap_pieces 16777216 maps
+  heaping_done w e =
+      sym (append-nil pieces)
+      ∙ ap (λ ps. pieces ++ ps) (sym (ap (heap_pieces left) e ∙ heap_none left)) ∙ w.all
+
+-- whether there are more words, by those that are left
+pub record Cutting_off (maps : List CoreMapRange) (left index : ℕ) : Type 0 where
+  pub all : is_cut left (drop index maps) ≡ is_cut 16777216 maps
+
+pub off_init : (maps : List CoreMapRange) → Cutting_off maps 16777216 0
+off_init maps = record { all = refl }
+
+module _ {maps : List CoreMapRange} {left index : ℕ} where
+  pub off_more : (s : CoreMapRange) (n all : ℕ) → Cutting_off maps left index
+      → drop index maps ≡ s ∷ drop (index + 1) maps → all ≡ words_of s → n ≡ min all left → all ≤ n
+      → Cutting_off maps (left - n) (index + 1)
+  off_more s n all w next e is less =
+      let shared : n ≡ share left s = is ∙ ap (λ k. min k left) e in
+      record {
+        all = sym (cut_next left s (drop (index + 1) maps) n shared (omega (arith, e, less)))
+            ∙ ap (is_cut left) (sym next) ∙ w.all;
+      }
+
+  pub off_here : (s : CoreMapRange) (n all : ℕ) → Cutting_off maps left index
+      → drop index maps ≡ s ∷ drop (index + 1) maps → all ≡ words_of s → n ≡ min all left → n < all
+      → true ≡ is_cut 16777216 maps
+  off_here s n all w next e is less =
+      let shared : n ≡ share left s = is ∙ ap (λ k. min k left) e in
+      sym (cut_here left s (drop (index + 1) maps) (omega (arith, e, less, shared)))
+      ∙ ap (is_cut left) (sym next) ∙ w.all
+
+  pub off_done : Cutting_off maps left index → drop index maps ≡ [] → false ≡ is_cut 16777216 maps
+  off_done w e = sym (cut_none left) ∙ ap (is_cut left) (sym e) ∙ w.all

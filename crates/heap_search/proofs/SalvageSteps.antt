@@ -1,8 +1,8 @@
 -- What is left, and what a search finds where nothing is.
-use Rattle.std.proofs.Common.{◌≡◌, ◌≢◌, ℕ, ◌+◌, ◌*◌, ◌≤◌, Bool, true, false, List, [], ◌∷◌, length, map, refl, sym, ◌∙◌}
+use Rattle.std.proofs.Common.{◌≡◌, ◌≢◌, ℕ, ◌+◌, ◌≤◌, Bool, List, [], ◌∷◌, length, map, refl, sym, ◌∙◌}
 use Rattle.std.proofs.Common.{ap, arith}
 use Rattle.std.proofs.lemmas.List.{length-map}
-use Rattle.std.specs.Prelude.{Option, Some, None, Ok, Err, Result}
+use Rattle.std.specs.Prelude.{Option, Some, None}
 use Rattle.elf64_core.specs.declared.header.Machine.{Machine}
 use Rattle.image_memory.specs.declared.maps.CoreMapRange.{CoreMapRange}
 use Rattle.process_memory.specs.Memory.{Memory}
@@ -10,16 +10,14 @@ use Rattle.py_fields.specs.declared.version.Version.{Version}
 use Rattle.py_fields.specs.declared.layout.Layout.{Layout}
 use Rattle.py_process.specs.Facts.{Known}
 use Rattle.py_stacks.specs.declared.asked.Asked.{Asked}
-use Rattle.py_stacks.specs.declared.error.StackError.{StackError}
-use Rattle.py_fronts.specs.Answers.{IsOrNoMemory}
-use Rattle.py_fronts.specs.Fronts.{InterpreterShown, interpreter_of_front, interpreters_fronts}
+use Rattle.py_fronts.specs.Fronts.{interpreter_of_front, interpreters_fronts, threads_from}
+use Rattle.py_fronts.specs.ThreadFronts.{left_after}
 use Rattle.py_fronts.specs.Interpreters.{Search}
-use Rattle.py_fronts.specs.Salvaged.{LockedInterpreter, SalvagedShown, locked, salvaged_at, salvaged_result, with_lock}
+use Rattle.py_fronts.specs.Salvaged.{LockedInterpreter, SalvagedShown, locked, salvaged_at, with_lock}
 use Rattle.py_fronts.specs.Salvaged.{with_locks}
 use Rattle.py_fronts.specs.declared.crash.Crash.{Crash}
 use Rattle.py_fronts.specs.declared.fronts.InterpreterFront.{InterpreterFront}
 use Rattle.py_fronts.specs.declared.interpreters.FoundInterpreter.{FoundInterpreter}
-use Rattle.py_fronts.specs.declared.salvaged.Salvaged.{Salvaged}
 use Rattle.py_fronts.specs.declared.salvaged.SalvagedInterpreter.{SalvagedInterpreter}
 use Rattle.py_fronts.specs.declared.search.Looked.{Looked}
 use Rattle.heap_search.specs.Salvaged.{both_looked, code_class, salvaged_or_searched, searched_if, searched_reads, shown_by}
@@ -31,7 +29,8 @@ fronts_long : (q : Asked) (l : Layout) (m : Memory) (limit left : ℕ) (xs : Lis
     → length (interpreters_fronts q l m limit left xs) ≡ length xs
 unfolding interpreters_fronts
 fronts_long q l m limit left [] = refl
-fronts_long q l m limit left (x ∷ xs) = omega (arith, fronts_long q l m limit _ xs)
+fronts_long q l m limit left (x ∷ xs) =
+    omega (arith, fronts_long q l m limit (left_after left (threads_from q l m limit left x).threads) xs)
 
 pub fronts_few : (q : Asked) (l : Layout) (m : Memory) (limit : ℕ) (found : List FoundInterpreter)
     (fronts : List InterpreterFront)

@@ -7,10 +7,11 @@ use Rattle.process_memory.specs.Memory.{Memory, byte_at}
 use Rattle.process_memory.specs.Seen.{Reading, Seen}
 use Rattle.process_memory.proofs.Reading.{reading_gives, reading_here, reading_none, reading_then}
 use Rattle.py_fields.specs.declared.layout.Layout.{Layout}
-use Rattle.py_stacks.specs.Threads.{thread_limit}
 use Rattle.py_stacks.specs.declared.error.StackError.{StackError}
 use Rattle.py_stacks.specs.declared.error.StackError.TheVariants as stack
+use Rattle.image_memory.specs.declared.maps.CoreMapRange.{CoreMapRange}
 use Rattle.py_fronts.specs.Candidates.{words_there}
+use Rattle.py_fronts.specs.declared.interpreters.FoundInterpreter.{FoundInterpreter}
 use Rattle.py_fronts.specs.Interpreters.{Finds, Search, Tried, chain_length, headed_at, is_found, search_limit}
 use Rattle.py_fronts.specs.Interpreters.{shown_head, shown_where, try_at, walked_for, with_head, with_one}
 use Rattle.py_fronts.specs.ThreadFronts.{threads_front}
@@ -19,10 +20,11 @@ use Rattle.py_fronts.proofs.SectionSteps.{words_few}
 use Rattle.heap_search.specs.declared.pieces.HeapPiece.{HeapPiece}
 use Rattle.heap_search.specs.declared.search.HeapSearch.{HeapSearch}
 use Rattle.heap_search.specs.Known.{has_known}
-use Rattle.heap_search.specs.Pieces.{piece_there, pieces_there, words_in}
+use Rattle.heap_search.specs.Pieces.{heap_pieces, piece_there, pieces_there, words_in}
 use Rattle.heap_search.specs.Search.{Looks, after_looks, known_at, look_at, look_within, looks_reads, piece_reads}
-use Rattle.heap_search.specs.Search.{pieces_reads, search_of, taken_by, taken_head, walked_by}
-use Rattle.heap_search.proofs.PieceSteps.{there_append, there_more, there_none, words_append, words_more, words_none}
+use Rattle.heap_search.specs.Search.{nothing_yet, pieces_reads, search_at, search_of, search_reads, taken_by, taken_head}
+use Rattle.heap_search.specs.Search.{walked_by}
+use Rattle.heap_search.proofs.PieceSteps.{there_append, there_more, there_none, words_append, words_more}
 
 pub looks_same : (wanted other : Search) (new : HeapSearch) (result : Result (Unit {0}) StackError) → wanted ≡ other
     → Looks wanted new result → Looks other new result
@@ -396,3 +398,45 @@ known_cost c l m a head members found some is =
     by (Some x) e shown =
         let p = whole_by (threads_front l a m x).ending x head shown in
         ap (chain_length l m a) e ∙ ap (λ y. length (threads_front l a m y).members) p.1
+
+-- ---- the whole search
+
+abbrev pub begun : List FoundInterpreter → Search
+begun found = record { finds = record { found = found; more = false }; addresses = 0; members = 0 }
+
+pub begins : (found : List FoundInterpreter) → found ≡ [] → begun found ≡ nothing_yet
+begins found none = ap begun none
+
+module _ (c : ℕ → Bool) (l : Layout) (pointers : List ℕ) (class : ℕ) (segments : List CoreMapRange)
+    (pieces read : List HeapPiece) (start : Search) (none : start ≡ nothing_yet)
+    (are : pieces ≡ heap_pieces 16777216 segments) (same : read ≡ pieces) where
+  looked_is : (m : Memory)
+      → after_looks c l m pointers class start (pieces_there m read) ≡ search_at c l m pointers class segments
+  unfolding search_at
+  looked_is m =
+      ap (λ s. after_looks c l m pointers class s (pieces_there m read)) none
+      ∙ ap (λ ps. after_looks c l m pointers class nothing_yet (pieces_there m ps)) (same ∙ are)
+
+  looked_cost : (m : Memory)
+      → pieces_reads c l m pointers class start read ≡ search_reads c l m pointers class segments
+  looked_cost m =
+      omega (
+        arith,
+        ap words_in (same ∙ are),
+        ap (λ (s : Search). s.members) (looked_is m),
+        ap (λ (s : Search). s.members) none,
+      )
+
+  pub heap_looked : {s0 s1 : Seen} (new : HeapSearch)
+      → Reading (pieces_reads c l (byte_at s0.pieces) pointers class start read) s0 s1
+      (λ m. search_of new ≡ after_looks c l m pointers class start (pieces_there m read))
+      → Reading (search_reads c l (byte_at s0.pieces) pointers class segments) s0 s1
+      (λ m. search_of new ≡ search_at c l m pointers class segments)
+  heap_looked {s0} new r =
+      reading_gives _ _ r (omega (arith, looked_cost (byte_at s0.pieces))) (λ m h. h ∙ looked_is m)
+
+  pub heap_lost : {s0 s1 : Seen} (Q : Memory → Type 0) (f : StackError)
+      → Reading (pieces_reads c l (byte_at s0.pieces) pointers class start read) s0 s1 (λ m. f ≡ stack.OutOfMemory)
+      → ((m : Memory) → f ≡ stack.OutOfMemory → Q m)
+      → Reading (search_reads c l (byte_at s0.pieces) pointers class segments) s0 s1 Q
+  heap_lost {s0} Q f r q = reading_gives _ _ r (omega (arith, looked_cost (byte_at s0.pieces))) q

@@ -1,5 +1,5 @@
 -- What is left of a process of which nothing leads to an interpreter: those that are found in its heap.
-use Rattle.std.specs.Prelude.{◌≡◌, ℕ, ◌+◌, ◌-◌, ◌*◌, ◌^◌, min, ◌||◌, Bool, true, false, List, [], ◌∷◌, length, map}
+use Rattle.std.specs.Prelude.{ℕ, ◌+◌, ◌-◌, ◌*◌, ◌^◌, min, ◌||◌, Bool, List, [], ◌∷◌, length, map}
 use Rattle.std.specs.Prelude.{codes, Option, Some, None}
 use Rattle.elf64_core.specs.declared.header.Machine.{Machine}
 use Rattle.image_memory.specs.declared.maps.CoreMapRange.{CoreMapRange}

@@ -1,8 +1,8 @@
 -- The search for interpreters among the words of a process's memory: an interpreter's address is one of them, since a
 -- thread's record names it (`interp` of `PyThreadState`). One is taken where the chain of its threads is whole and one
 -- of these is known as the process's own.
-use Rattle.std.specs.Prelude.{◌≡◌, ℕ, ◌+◌, ◌-◌, ◌*◌, ◌^◌, min, nat_le, nat_lt, ◌||◌, Bool, false, if◌then◌else◌, List}
-use Rattle.std.specs.Prelude.{[], ◌∷◌, length, Option, Some, None, Result, Ok, Err}
+use Rattle.std.specs.Prelude.{◌≡◌, ℕ, ◌+◌, ◌-◌, ◌*◌, ◌^◌, min, nat_le, nat_lt, ◌||◌, Bool, true, if◌then◌else◌}
+use Rattle.std.specs.Prelude.{List, [], ◌∷◌, length, Option, Some, None, Result, Ok, Err}
 use Rattle.process_memory.specs.Memory.{Memory}
 use Rattle.py_fields.specs.declared.layout.Layout.{Layout}
 use Rattle.py_stacks.specs.declared.error.StackError.{StackError}
@@ -16,10 +16,14 @@ use Rattle.heap_search.specs.declared.search.HeapSearch.{HeapSearch}
 use Rattle.heap_search.specs.Known.{has_known}
 use Rattle.heap_search.specs.Pieces.{heap_pieces, is_cut, piece_there, pieces_there, words_in, words_limit}
 
+-- a first thread, where its interpreter is taken
+abbrev pub head_if : (is_taken : Bool) → ℕ → Option ℕ
+head_if is_taken head = if is_taken then Some head else None
+
 -- an interpreter whose chain of threads is whole is taken where one of them is known
 abbrev pub taken_by : Layout → Memory → (pointers : List ℕ) → (class a : ℕ) → Option ℕ → Option ℕ
 taken_by l m pointers class a None = None
-taken_by l m pointers class a (Some head) = if has_known l m pointers class a head then Some head else None
+taken_by l m pointers class a (Some head) = head_if (has_known l m pointers class a head) head
 
 -- the first thread of what stands at an address, where that is taken
 unfoldable pub taken_head : (ℕ → Bool) → Layout → Memory → (pointers : List ℕ) → (class a : ℕ) → Option ℕ

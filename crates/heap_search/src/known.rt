@@ -1,5 +1,5 @@
 //! Threads that are known as a process's own.
-ghost use Rattle.std.specs.Prelude.{◌≡◌, ◌+◌, ◌*◌, MatchOption, Err, Ok, length};
+ghost use Rattle.std.specs.Prelude.{◌≡◌, ◌+◌, ◌*◌, MatchOption, Err, Ok, false, length};
 ghost use Rattle.process_memory.specs.Memory.{word_at};
 ghost use Rattle.process_memory.specs.Seen.{Reading, ReadingBy};
 ghost use Rattle.py_fields.specs.Sound.{IsSound};

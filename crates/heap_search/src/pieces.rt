@@ -51,7 +51,8 @@ fn add_pieces(
 {
     let mut at = addr as u128;
     let mut left = words;
-    for _ in 0..PIECES {
+    let mut turns = PIECES;
+    while turns != 0 {
         if left == 0 {
             return Ok(());
         }
@@ -59,6 +60,7 @@ fn add_pieces(
         pieces.push(HeapPiece { at, count })?;
         at += 4096;
         left -= count;
+        turns -= 1;
     }
     Ok(())
 }

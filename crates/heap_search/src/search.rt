@@ -9,7 +9,7 @@ ghost use Rattle.heap_search.specs.OfProcess.{AreOfProcess};
 ghost use Rattle.heap_search.specs.Pieces.{IsPiece, piece_there, pieces_there};
 ghost use Rattle.heap_search.specs.Search.{Looks, after_looks, look_at, look_within, looked_by, looks_reads};
 ghost use Rattle.heap_search.specs.Search.{pieces_reads, search_at, search_in, search_of, search_reads, search_result};
-ghost use Rattle.heap_search.specs.Search.{known_at, nothing_yet, piece_reads};
+ghost use Rattle.heap_search.specs.Search.{head_if, known_at, nothing_yet, piece_reads};
 
 use crate::known::has_known;
 use crate::pieces::{HeapPiece, heap_pieces, is_cut};
@@ -58,6 +58,13 @@ fn take(
     Ok(())
 }
 
+/// A first thread, where its interpreter is taken.
+fn head_if(is_taken: bool, head: u64) -> Option<u64>
+    ensures { result ≡ head_if is_taken head }
+{
+    if is_taken { Some(head) } else { None }
+}
+
 /// Tries an address. At most 4 reads, and 6 for each thread that is walked.
 fn try_known<M: ContainsAddr, P: ProcessMemory>(
     alloc: Global,
@@ -88,8 +95,10 @@ fn try_known<M: ContainsAddr, P: ProcessMemory>(
         }
     };
     let known = has_known(alloc, process, layout, pointers, class, addr, head)?;
-    let head = if known { Some(head) } else { None };
-    Ok(Trial { head, members })
+    Ok(Trial {
+        head: head_if(known, head),
+        members,
+    })
 }
 
 /// Looks at an address: takes it where it is an interpreter with a thread that is known, and was not found before.

@@ -5,7 +5,7 @@ use Rattle.heap_search.specs.declared.pieces.HeapPiece.{HeapPiece}
 use Rattle.heap_search.proofs.SearchSteps.{pieces_done, pieces_init, pieces_lost, pieces_more, pieces_spent}
 use Rattle.heap_search.proofs.search.look_in_pieces.Goals as goal
 
-no_piece : HeapPiece
+abbrev no_piece : HeapPiece
 no_piece = record { at = 0; count = 0 }
 
 pub loop-piece-init : goal.loop-piece-init

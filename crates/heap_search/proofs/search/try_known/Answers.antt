@@ -1,4 +1,4 @@
-use Rattle.std.proofs.Common.{arith, ap, length, refl}
+use Rattle.std.proofs.Common.{arith, ap, length}
 use Rattle.std.proofs.lemmas.Result.{err_from_is_err_and}
 use Rattle.process_memory.proofs.Reading.{reading_gives, reading_here, reading_then}
 use Rattle.process_memory.specs.Memory.{byte_at}
@@ -37,6 +37,6 @@ returns-clause-answer g c =
     c.in_ok-trial.ensures.answer.pieces in
     reading_gives _ _ (reading_then _ c.in_ok-trial.ensures.answer c.in_ok-known.ensures
     (λ m a b. known_some (g.M.ContainsAddr.contains c.args.maps.now) c.args.layout.now c.args.pointers.now c.args.class
-    m c.args.addr c.in-Some.head c.in_ok-trial.trial.members c.in_ok-trial.trial.head c.in_ok-known.known _ c.in-Some.is
-    a b refl))
+    m c.args.addr c.in-Some.head c.in_ok-trial.trial.members c.in_ok-trial.trial.head c.in_ok-known.known c.head_if.result
+    c.in-Some.is a b c.head_if.ensures))
     (omega (arith, all, same)) (λ m h. h)
