@@ -3,7 +3,7 @@
 import struct
 from typing import Sequence
 
-from made import NO_BITS, NOTE, STRINGS, SYMBOLS, EXAMPLE, Objects, Section, Segment, core_file, image_file, layout_of
+from made import NO_BITS, NOTE, STRINGS, SYMBOLS, EXAMPLE, Objects, Section, Segment, Symbol, core_file, image_file, layout_of, note
 from small_core import BSS, HEAP, bss, heap, heap_of_locals, mapped
 
 MANY = 1000
@@ -59,6 +59,29 @@ def of_bss() -> bytes:
     own = [heap().segment(6), mapped(), Segment(BSS, bytes(LONG), 6)]
     places = [Segment(BSS + LONG * number, b"", 6, 0) for number in range(1, MANY)]
     return over(core_file([*own, *places]), 2, range(3, 2 + MANY), mem_size=True)
+
+
+def of_heap_words() -> bytes:
+    """A core whose heap is there by many load segments over the same words of the file. Each word is the address of a record that
+    names a thread of another interpreter; nothing else leads to one, and a status record tells a thread pointer."""
+    objects = heap()
+    stray = objects.record("interpreter")
+    thread = objects.record("thread", None, interp=HEAP + 1, id=1)
+    objects.word(stray + objects.group("interpreter")["threads"], thread)
+    words = Segment(0x9000000, struct.pack("<Q", stray) * (LONG // 8), 6)
+    own = [objects.segment(6), mapped(), bss(0, 0), words]
+    places = [Segment(0x9000000 + 2 * LONG * number, b"", 6, 0) for number in range(1, MANY // 5)]
+    return over(core_file([*own, *places], [status_of(0x7F00)]), 3, range(4, 3 + MANY // 5), mem_size=True)
+
+
+def status_of(pointer: int) -> bytes:
+    """The note of a thread's status, with its thread pointer."""
+    return note(b"CORE\0", 1, (bytes(280) + struct.pack("<Q", pointer)).ljust(336, b"\0"))
+
+
+def image_of_codes() -> bytes:
+    """A program that names the class of codes."""
+    return image_file([Segment(0x400000, b"", 5, 0x1000)], (BSS, 16), [Symbol("PyCode_Type", 0x5F0000)])
 
 
 def image_of_bss(size: int) -> bytes:

@@ -29,8 +29,8 @@ from made_heaps import of_long_dicts, of_members, of_woven_members
 from rows_merge import EXTENSION, WITH_EXTENSION
 from rows_native import CODE, PAGE, RESUMES, STACK, WORDS as NATIVE, files_over, status
 from rows_salvage import named
-from shared_files import LONG as SHARED, MANY, image_of_bss, image_of_sections, image_of_symbols, layout_of_tables, of_bss
-from shared_files import of_hidden_frames, of_long_name, of_names, of_notes
+from shared_files import LONG as SHARED, MANY, image_of_bss, image_of_codes, image_of_sections, image_of_symbols, layout_of_tables, of_bss
+from shared_files import of_heap_words, of_hidden_frames, of_long_name, of_names, of_notes
 
 SKIPPED = "<shim>"
 """The file name of members of a chain that are not shown."""
@@ -206,6 +206,9 @@ OVER_CORES = {
 }
 """The words of each command over a core."""
 
+HEAP_ENDS = "1 no interpreter found: 16777218 addresses looked at, 0 members walked"
+"""How the search of a heap ends that leads nowhere: the two words of the bss were looked at before."""
+
 TEN = 10.0
 """The seconds of rows whose time grows with what they claim."""
 
@@ -269,6 +272,8 @@ def apart() -> Iterator[Case]:
     yield Case("4096 threads of the same 4096 frames, whose ends are shown", SALVAGE,
                lambda: with_bss(2, interpreter("a.py", "f", 4096, 4096)), "0",
                memory=100, seconds=TEN)
+    yield Case("a heap of 16,777,216 words, by 200 segments over the same 1 MB, each of a record whose first thread is another's", SALVAGE,
+               lambda: files_of(of_heap_words(), program=image_of_codes()), HEAP_ENDS, seconds=2 * TEN)
     yield Case("1024 threads of the same 1024 frames", GOOD, lambda: with_bss(2, interpreter("a.py", "f", 1024, 1024)), "0",
                memory=300, seconds=TEN)
     yield Case("`slim`: 400 threads of 16,384 members that aren't shown", OVER_CORES["slim"], of_core(lambda: of_hidden_frames(400)), "0",

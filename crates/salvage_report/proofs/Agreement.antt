@@ -3,7 +3,11 @@
 use Rattle.std.proofs.Common.{◌≡◌, ◌≢◌, ◌≤◌, ℕ, List, [], ◌∷◌, Ok, Err, refl, sym, ap, subst, ◌∙◌, arith}
 use Rattle.std.proofs.Common.{inl, inr}
 use Rattle.std.specs.Prelude.{Option, Some, None, map}
+use Rattle.elf64_core.specs.Header.{machine_of}
 use Rattle.image_memory.specs.Images.{Pushed}
+use Rattle.image_memory.specs.Maps.{in_maps}
+use Rattle.image_memory.specs.declared.maps.CoreMapRange.{CoreMapRange}
+use Rattle.image_memory.proofs.Noted.{AreMaps-once, notes_same}
 use Rattle.py_fields.specs.declared.layout.Layout.{Layout}
 use Rattle.py_layout.specs.File.{IsRightFor}
 use Rattle.py_layout.proofs.Answering.{right-unique}
@@ -15,7 +19,8 @@ use Rattle.core_stacks.specs.Named.{ProcessOrNamed}
 use Rattle.core_stacks.specs.Process.{OpenedProcess}
 use Rattle.core_stacks.proofs.Layouts.{chooses_once}
 use Rattle.py_fronts.specs.declared.search.Looked.{Looked}
-use Rattle.py_fronts.specs.Salvaged.{LockedInterpreter, locked, salvaged_at}
+use Rattle.py_fronts.specs.Salvaged.{LockedInterpreter, SalvagedShown, locked}
+use Rattle.heap_search.proofs.SalvageSteps.{interpreters_same}
 use Rattle.py_fronts.specs.declared.crash.Crash.{Crash}
 use Rattle.py_fronts.specs.declared.salvaged.SalvagedInterpreter.{SalvagedInterpreter}
 use Rattle.salvage_words.specs.Salvage.{Salvage}
@@ -29,7 +34,9 @@ use Rattle.salvage_report.proofs.Recorded.{records_apart, records_exclude, recor
 use Rattle.salvage_report.proofs.Recorded.{tables_once}
 use Rattle.salvage_report.specs.Outcome.{IsCoreFaultless, IsCoreOutcome, IsFaultless, IsFaultlessBy, IsOutcomeBy}
 use Rattle.salvage_report.specs.Outcome.{IsLeft, IsLeftOf, IsOutcome, IsSalvagedBy, IsShowable, Outcome}
-use Rattle.salvage_report.specs.Outcome.{cause_status, left_at, tables_for}
+use Rattle.salvage_report.specs.Outcome.{SearchesBy, asked_of, cause_status, left_at, tables_for}
+use Rattle.salvage_report.specs.Pointers.{PointersTold, pointers_of}
+use Rattle.py_process.specs.Reports.{memory_in}
 use Rattle.salvage_report.specs.Outcome.{outcome_status, shown_or_none}
 use Rattle.named_images.specs.Named.{images_read}
 use Rattle.program_run.specs.Ends.{IsOwn}
@@ -90,6 +97,12 @@ module _ (layouts : List Layout) (once : ChoosesOnce layouts) where
 
 -- ---- what is left
 
+-- a core tells one list of thread pointers
+pointers_once : (bytes one other : List ℕ) → PointersTold bytes one → PointersTold bytes other → one ≡ other
+pointers_once bytes one other h k =
+    h.says ∙ ap (pointers_of (machine_of bytes))
+    (notes_same bytes h.notes k.notes h.are.entries k.are.entries h.are.found k.are.found) ∙ sym k.says
+
 -- whether some interpreters are shown is what their values say
 abbrev SameKind : List SalvagedInterpreter → List SalvagedInterpreter → Type 0
 SameKind is js = (n m : Looked) (s t : List ℕ) → outcome_status (shown_or_none is n s) ≡ outcome_status
@@ -111,16 +124,24 @@ some_shown (i ∷ is) n s cause some e = absurd (cc)
 
 module _ (s : Salvage) (bytes : List ℕ) (images : Pushed) (ts : List RecordTable) where
   -- the interpreters that are shown don't depend on which thread got the signal
-  shown_of : (o : OpenedProcess) (left : Left) (crash : Option Crash) → IsLeft s ts bytes images o left
-      → map locked left.salvaged.interpreters.items ≡ (left_at s bytes o crash).interpreters
-  unfolding salvaged_at
-  shown_of o left crash h = ap (λ x. x.interpreters) h.salvaged
+  shown_of : (o : OpenedProcess) (left : Left) (crash : Option Crash) (segments : List CoreMapRange)
+      (pointers : List ℕ) → SearchesBy bytes segments pointers → IsLeft s ts bytes images o left
+      → map locked left.salvaged.interpreters.items ≡ (left_at s bytes o crash segments pointers).interpreters
+  shown_of o left crash segments pointers by h =
+      ap (λ (x : SalvagedShown). x.interpreters) (h.salvaged
+      ∙ ap (λ xs. left_at s bytes o left.salvaged.crash xs h.pointers)
+      (AreMaps-once bytes h.segments segments h.by.are by.are)
+      ∙ ap (left_at s bytes o left.salvaged.crash segments)
+      (pointers_once bytes h.pointers pointers h.by.told by.told))
+      ∙ interpreters_same (in_maps o.dumped.maps) (machine_of bytes) o.known o.version o.layout (memory_in o.dumped)
+      (asked_of s) s.limit left.salvaged.crash crash segments pointers
 
   left_agree : (o : OpenedProcess) → AgreeIn (IsLeftOf s ts bytes images o)
   left_agree o a b (left, h, is) (other, k, also) na nb =
       ap outcome_status is
       ∙ same_kind left.salvaged.interpreters.items other.salvaged.interpreters.items
-      (shown_of o left left.salvaged.crash h ∙ sym (shown_of o other left.salvaged.crash k))
+      (shown_of o left left.salvaged.crash h.segments h.pointers h.by h
+      ∙ sym (shown_of o other left.salvaged.crash h.segments h.pointers h.by k))
       left.salvaged.looked other.salvaged.looked (shown_left s left) (shown_left s other)
       ∙ sym (ap outcome_status also)
 
@@ -142,6 +163,7 @@ module _ (s : Salvage) (ts : List RecordTable) (bytes : List ℕ) (images : Push
       (λ e error ne. opened_apart layouts once bytes images good.opened e good.is_opened error (core_one e ne).1)
       (λ o found cause ne h. some_shown h.0.salvaged.interpreters.items h.0.salvaged.looked (shown_left s h.0) cause
       (λ none. good.shown (sym (shown_of s bytes images (tables_for ts good.opened) good.opened h.0 good.crash
+      good.segments good.pointers good.by
       (subst (λ q. IsLeft s (tables_for ts q) bytes images q h.0)
       (opened_once layouts once bytes images o good.opened found good.is_opened) h.1)) ∙ none)) h.2)
 

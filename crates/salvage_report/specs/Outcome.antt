@@ -4,7 +4,9 @@ use Rattle.std.specs.Prelude.{[], ◌∷◌, length, Option, Some, None, Result,
 use Rattle.std.specs.Global.{Global}
 use Rattle.elf64_core.specs.Header.{machine_of}
 use Rattle.image_memory.specs.Images.{Pushed}
-use Rattle.image_memory.specs.Maps.{in_maps}
+use Rattle.image_memory.specs.Maps.{AreMaps, in_maps}
+use Rattle.image_memory.specs.declared.maps.CoreMapRange.{CoreMapRange}
+use Rattle.heap_search.specs.Salvaged.{salvaged_or_searched}
 use Rattle.py_fields.specs.declared.layout.Layout.{Layout}
 use Rattle.py_layout.specs.File.{IsRightFor}
 use Rattle.py_stacks.specs.declared.asked.Asked.{Asked}
@@ -17,7 +19,7 @@ use Rattle.py_records.specs.declared.table.RecordTable.{RecordTable}
 use Rattle.py_records.specs.Versions.{records_of}
 use Rattle.memory_sections.specs.Told.{AreMemoryTold}
 use Rattle.py_fronts.specs.declared.search.Looked.{Looked}
-use Rattle.py_fronts.specs.Salvaged.{SalvagedShown, locked, salvaged_at}
+use Rattle.py_fronts.specs.Salvaged.{SalvagedShown, locked}
 use Rattle.py_fronts.specs.declared.crash.Crash.{Crash}
 use Rattle.py_fronts.specs.declared.salvaged.Salvaged.{Salvaged}
 use Rattle.py_fronts.specs.declared.salvaged.SalvagedInterpreter.{SalvagedInterpreter}
@@ -26,6 +28,7 @@ use Rattle.salvage_report.specs.declared.cause.Cause.{Cause}
 use Rattle.salvage_report.specs.declared.cause.Cause.TheVariants.{Core, Layouts, NoInterpreter, OutOfMemory, Records}
 use Rattle.salvage_report.specs.declared.left.Left.{Left}
 use Rattle.salvage_report.specs.Crashed.{CrashTold}
+use Rattle.salvage_report.specs.Pointers.{PointersTold}
 use Rattle.core_stacks.specs.Named.{ProcessOrNamed}
 use Rattle.core_stacks.specs.Process.{OpenedProcess}
 use Rattle.named_images.specs.Named.{images_read}
@@ -57,10 +60,17 @@ salvaged_of s = record {
   crash = s.crash;
 }
 
--- it is what the fronts over the memory of the core and its images are, each interpreter with its own lock
-abbrev pub left_at : Salvage → List ℕ → OpenedProcess → Option Crash → SalvagedShown
-left_at s bytes o crash = salvaged_at (in_maps o.dumped.maps) (machine_of bytes) o.known o.version o.layout
-    (memory_in o.dumped) (asked_of s) s.limit crash
+-- a search of the heap goes by the load segments of the core, and by the thread pointers that its status records tell
+pub record SearchesBy (bytes : List ℕ) (segments : List CoreMapRange) (pointers : List ℕ) : Type 0 where
+  pub are : AreMaps bytes segments
+  pub told : PointersTold bytes pointers
+
+-- it is what the fronts over the memory of the core and its images are, each interpreter with its own lock; where there
+-- is none, those that the search of its heap finds
+abbrev pub left_at : Salvage → List ℕ → OpenedProcess → Option Crash → List CoreMapRange → (pointers : List ℕ)
+    → SalvagedShown
+left_at s bytes o crash segments pointers = salvaged_or_searched (in_maps o.dumped.maps) (machine_of bytes) o.known
+    o.version o.layout (memory_in o.dumped) (asked_of s) s.limit crash segments pointers
 
 -- what is left of an opened process, with what the notes of its core tell, and the sections that are asked for
 pub record IsLeft (s : Salvage) (ts : List RecordTable) (bytes : List ℕ) (images : Pushed) (o : OpenedProcess)
@@ -69,7 +79,10 @@ pub record IsLeft (s : Salvage) (ts : List RecordTable) (bytes : List ℕ) (imag
   pub named_is : left.named ≡ is_some o.untold
   pub notes : NotesTell bytes left.signal left.process
   pub crash : CrashTold bytes left.salvaged.crash
-  pub salvaged : salvaged_of left.salvaged ≡ left_at s bytes o left.salvaged.crash
+  pub segments : List CoreMapRange
+  pub pointers : List ℕ
+  pub by : SearchesBy bytes segments pointers
+  pub salvaged : salvaged_of left.salvaged ≡ left_at s bytes o left.salvaged.crash segments pointers
   pub told : AreTold s.sections bytes left.process left.salvaged.interpreters.items left.told
   pub check : CheckIs s.sections.check_layout bytes (layout_checked o left.salvaged.interpreters.items) left.check
   pub memory : AreMemoryTold s.sections s.locals bytes images o.known o.version o.layout
@@ -126,7 +139,10 @@ pub record IsShowable (s : Salvage) (bytes : List ℕ) (images : Pushed) (layout
   pub opened : OpenedProcess
   pub is_opened : ProcessOrNamed bytes images layouts (Ok opened)
   pub crash : Option Crash
-  pub shown : (left_at s bytes opened crash).interpreters ≢ []
+  pub segments : List CoreMapRange
+  pub pointers : List ℕ
+  pub by : SearchesBy bytes segments pointers
+  pub shown : (left_at s bytes opened crash segments pointers).interpreters ≢ []
 
 abbrev pub IsCoreFaultless : Salvage → List (List ℕ) → Type 0
 IsCoreFaultless s (bytes ∷ text ∷ images) = (layouts : List Layout) × IsRightFor text (Ok layouts)

@@ -15,17 +15,19 @@ ghost use Rattle.salvage_report.specs.Seen.{Salvages, ShowsLeft};
 use crate::cause::Cause;
 use crate::crash::first_crash;
 use crate::layout_check::check_section;
+use crate::pointers::thread_pointers;
 use crate::records::no_tables;
 use crate::sections::{Told, tell_sections};
 use crate::text::shown;
 use core_stacks::{Process, open_named};
 use elf64_core::Text;
+use heap_search::salvage_or_search;
 use image_memory::Images;
 use memory_sections::{MemoryTold, tell_memory};
 use missed_reads::{Missed, Misses};
 use named_images::image_list;
 use program_run::CoreFiles;
-use py_fronts::{Crash, Salvaged, SalvagedInterpreter, salvage};
+use py_fronts::{Crash, Salvaged, SalvagedInterpreter};
 use py_layout::{Layouts, Version};
 use py_process::CoreError;
 use py_records::RecordTables;
@@ -55,7 +57,7 @@ pub(crate) struct Left {
     pub(crate) values: ShownValues,
 }
 
-/// What is left of the interpreters of a process. Reads that are refused are kept.
+/// What is left of the interpreters of a process, or what the search of its heap finds. Reads that are refused are kept.
 fn salvaged_of(
     alloc: Global,
     words: &SalvageWords,
@@ -67,21 +69,25 @@ fn salvaged_of(
     requires few { words.now.limit ≤ 4096 }
     ensures { Salvages (asked_salvage words.now) process.now crash result }
 {
+    let core = process.dump.core();
+    let pointers = thread_pointers(alloc, core)?;
     let mut view = Missed::new(process.dump.view(), misses);
     let asked = Asked {
         lineno: LineNo::LastInstruction,
         locals: words.locals != 0,
     };
-    salvage(
+    salvage_or_search(
         alloc,
         &process.info,
         &mut view,
-        process.dump.core().machine(),
+        core.machine(),
         &process.version,
         &process.layout,
         asked,
         words.limit,
         crash,
+        core.maps(),
+        &pointers,
     )
 }
 

@@ -22,6 +22,7 @@ from rooms import ROOT  # (first: it makes the other rooms known)
 import rows_built
 import rows_dump
 import rows_heap
+import rows_heap_search
 import rows_layout_check
 import rows_listing
 import rows_merge
@@ -100,7 +101,7 @@ def main() -> int:
     parser.add_argument("--only", default="", help="the rows in whose name this stands")
     parser.add_argument("--list", action="store_true", help="print the names of the rows, and run none")
     words = parser.parse_args()
-    lists = [(words.program, [*rows_walk.rows(), *rows_dump.rows(), *rows_search.rows(), *rows_triage.rows(), *rows_reach.rows(), *rows_merge.rows(), *rows_slim.rows(), *rows_sample.rows()]), (words.listing, rows_listing.rows()), (words.salvage, [*rows_salvage.rows(), *rows_layout_check.rows(), *rows_names.rows(), *rows_native.rows(), *rows_tasks.rows(), *rows_values.rows(), *rows_heap.rows()])]
+    lists = [(words.program, [*rows_walk.rows(), *rows_dump.rows(), *rows_search.rows(), *rows_triage.rows(), *rows_reach.rows(), *rows_merge.rows(), *rows_slim.rows(), *rows_sample.rows()]), (words.listing, rows_listing.rows()), (words.salvage, [*rows_salvage.rows(), *rows_layout_check.rows(), *rows_names.rows(), *rows_native.rows(), *rows_tasks.rows(), *rows_values.rows(), *rows_heap.rows(), *rows_heap_search.rows()])]
     if os.path.isfile(words.listing):
         listing = os.path.abspath(words.listing)
         lists += [(words.program, [*rows_built.rows(listing), *rows_programs.rows(listing)]),
