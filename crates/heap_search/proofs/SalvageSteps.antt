@@ -10,6 +10,7 @@ use Rattle.py_fields.specs.declared.version.Version.{Version}
 use Rattle.py_fields.specs.declared.layout.Layout.{Layout}
 use Rattle.py_process.specs.Facts.{Known}
 use Rattle.py_stacks.specs.declared.asked.Asked.{Asked}
+use Rattle.py_fronts.specs.Candidates.{named_candidates}
 use Rattle.py_fronts.specs.Fronts.{interpreter_of_front, interpreters_fronts, threads_from}
 use Rattle.py_fronts.specs.ThreadFronts.{left_after}
 use Rattle.py_fronts.specs.Interpreters.{Search}
@@ -20,8 +21,8 @@ use Rattle.py_fronts.specs.declared.fronts.InterpreterFront.{InterpreterFront}
 use Rattle.py_fronts.specs.declared.interpreters.FoundInterpreter.{FoundInterpreter}
 use Rattle.py_fronts.specs.declared.salvaged.SalvagedInterpreter.{SalvagedInterpreter}
 use Rattle.py_fronts.specs.declared.search.Looked.{Looked}
-use Rattle.heap_search.specs.Salvaged.{both_looked, code_class, salvaged_or_searched, searched_if, searched_reads, shown_by}
-use Rattle.heap_search.specs.Salvaged.{shown_reads, where_none}
+use Rattle.heap_search.specs.Salvaged.{both_looked, code_class, salvaged_or_searched, searched_if, searched_reads}
+use Rattle.heap_search.specs.Salvaged.{shown_by, shown_reads, unless_named, where_none}
 use Rattle.heap_search.specs.Search.{looked_by, search_at, search_reads}
 
 -- as many interpreters are read as were found
@@ -66,6 +67,18 @@ none_first : (xs : List LockedInterpreter) (one first : SalvagedShown) → lengt
 none_first [] one first e = refl
 none_first (x ∷ xs) one first e = absurd (omega (arith, e))
 
+unless_same : (xs : List ℕ) (first : SalvagedShown) → first ≡ unless_named xs first first
+unless_same [] first = refl
+unless_same (x ∷ xs) first = refl
+
+named_first : (xs : List ℕ) (one first : SalvagedShown) → length xs ≢ 0 → first ≡ unless_named xs one first
+named_first [] one first some = absurd (some refl)
+named_first (x ∷ xs) one first some = refl
+
+unnamed_first : (xs : List ℕ) (one first : SalvagedShown) → length xs ≡ 0 → one ≡ unless_named xs one first
+unnamed_first [] one first e = refl
+unnamed_first (x ∷ xs) one first e = absurd (omega (arith, e))
+
 module _ (c : ℕ → Bool) (machine : Machine) (k : Known) (v : Version) (l : Layout) (m : Memory) (q : Asked)
     (limit : ℕ) (crash : Option Crash) (segments : List CoreMapRange) (pointers : List ℕ) where
   -- what is left, before the heap is looked at
@@ -84,7 +97,8 @@ module _ (c : ℕ → Bool) (machine : Machine) (k : Known) (v : Version) (l : L
   unfolding salvaged_or_searched
   first_is xs first is e some =
       is ∙ some_first at_first.interpreters
-      (searched_if c machine k v l m q limit crash segments pointers (code_class k) at_first) at_first
+      (unless_named (named_candidates k v l m)
+      (searched_if c machine k v l m q limit crash segments pointers (code_class k) at_first) at_first) at_first
       (λ z. some (long_as xs first is e ∙ z))
 
   -- none is shown, and the class of codes isn't known
@@ -94,23 +108,39 @@ module _ (c : ℕ → Bool) (machine : Machine) (k : Known) (v : Version) (l : L
   unfolding salvaged_or_searched
   unknown_is xs first is e none unknown =
       let zero : length at_first.interpreters ≡ 0 = sym (long_as xs first is e) ∙ none in
-      rw unknown (is ∙ none_first at_first.interpreters at_first at_first zero)
+      rw unknown (is ∙ unless_same (named_candidates k v l m) at_first
+      ∙ none_first at_first.interpreters (unless_named (named_candidates k v l m) at_first at_first) at_first zero)
+
+  -- none is shown, and something names one
+  pub named_is : (xs : List SalvagedInterpreter) (first : SalvagedShown) (named : List ℕ) → first ≡ at_first
+      → first.interpreters ≡ map locked xs → length xs ≡ 0 → named ≡ named_candidates k v l m → length named ≢ 0
+      → first ≡ salvaged_or_searched c machine k v l m q limit crash segments pointers
+  unfolding salvaged_or_searched
+  named_is xs first named is e none names some =
+      let zero : length at_first.interpreters ≡ 0 = sym (long_as xs first is e) ∙ none in
+      let one = searched_if c machine k v l m q limit crash segments pointers (code_class k) at_first in
+      is ∙ named_first (named_candidates k v l m) one at_first (λ z. some (ap length names ∙ z))
+      ∙ none_first at_first.interpreters (unless_named (named_candidates k v l m) one at_first) at_first zero
 
   -- none is shown, and the heap is looked at
-  pub searched_is : (xs : List SalvagedInterpreter) (first shown : SalvagedShown) (class : ℕ) (s : Search)
-      → first ≡ at_first → first.interpreters ≡ map locked xs → length xs ≡ 0 → code_class k ≡ Some class
+  pub searched_is : (xs : List SalvagedInterpreter) (first shown : SalvagedShown) (named : List ℕ) (class : ℕ)
+      (s : Search) → first ≡ at_first → first.interpreters ≡ map locked xs → length xs ≡ 0
+      → named ≡ named_candidates k v l m → length named ≡ 0 → code_class k ≡ Some class
       → s ≡ search_at c l m pointers class segments
       → shown ≡ shown_by machine k v l m q limit crash segments first.looked s
       → shown ≡ salvaged_or_searched c machine k v l m q limit crash segments pointers
   unfolding salvaged_or_searched
-  searched_is xs first shown class s is e none known found same =
+  searched_is xs first shown named class s is e none names unnamed known found same =
       let zero : length at_first.interpreters ≡ 0 = sym (long_as xs first is e) ∙ none in
       rw known (same
       ∙ ap (λ (f : SalvagedShown). shown_by machine k v l m q limit crash segments f.looked s) is
       ∙ ap (shown_by machine k v l m q limit crash segments at_first.looked) found
-      ∙ none_first at_first.interpreters
+      ∙ unnamed_first (named_candidates k v l m)
       (shown_by machine k v l m q limit crash segments at_first.looked (search_at c l m pointers class segments))
-      at_first zero)
+      at_first (sym (ap length names) ∙ unnamed)
+      ∙ none_first at_first.interpreters (unless_named (named_candidates k v l m)
+      (shown_by machine k v l m q limit crash segments at_first.looked (search_at c l m pointers class segments))
+      at_first) at_first zero)
 
 -- what the search of a known class costs
 pub searched_cost : (c : ℕ → Bool) (l : Layout) (m : Memory) (q : Asked) (limit : ℕ) (segments : List CoreMapRange)
@@ -132,6 +162,11 @@ where_crash : (xs : List LockedInterpreter) (one two : SalvagedShown) (crash : O
 where_crash [] one two crash e h = e
 where_crash (x ∷ xs) one two crash e h = h
 
+unless_crash : (xs : List ℕ) (one two : SalvagedShown) (crash : Option Crash) → one.crash ≡ crash → two.crash ≡ crash
+    → (unless_named xs one two).crash ≡ crash
+unless_crash [] one two crash e h = e
+unless_crash (x ∷ xs) one two crash e h = h
+
 if_crash : (c : ℕ → Bool) (machine : Machine) (k : Known) (v : Version) (l : Layout) (m : Memory) (q : Asked)
     (limit : ℕ) (crash : Option Crash) (segments : List CoreMapRange) (pointers : List ℕ) (class : Option ℕ)
     (first : SalvagedShown) → first.crash ≡ crash
@@ -146,15 +181,22 @@ pub crash_kept : (c : ℕ → Bool) (machine : Machine) (k : Known) (v : Version
 unfolding salvaged_or_searched salvaged_at
 crash_kept c machine k v l m q limit crash segments pointers =
     let first = salvaged_at c machine k v l m q limit crash in
-    where_crash first.interpreters
-    (searched_if c machine k v l m q limit crash segments pointers (code_class k) first) first crash
-    (if_crash c machine k v l m q limit crash segments pointers (code_class k) first refl) refl
+    let one = searched_if c machine k v l m q limit crash segments pointers (code_class k) first in
+    where_crash first.interpreters (unless_named (named_candidates k v l m) one first) first crash
+    (unless_crash (named_candidates k v l m) one first crash
+    (if_crash c machine k v l m q limit crash segments pointers (code_class k) first refl) refl) refl
 
 where_same : (xs : List LockedInterpreter) (one two other more : SalvagedShown)
     → one.interpreters ≡ other.interpreters → two.interpreters ≡ more.interpreters
     → (where_none xs one two).interpreters ≡ (where_none xs other more).interpreters
 where_same [] one two other more e h = e
 where_same (x ∷ xs) one two other more e h = h
+
+unless_alike : (xs : List ℕ) (one two other more : SalvagedShown)
+    → one.interpreters ≡ other.interpreters → two.interpreters ≡ more.interpreters
+    → (unless_named xs one two).interpreters ≡ (unless_named xs other more).interpreters
+unless_alike [] one two other more e h = e
+unless_alike (x ∷ xs) one two other more e h = h
 
 if_same : (c : ℕ → Bool) (machine : Machine) (k : Known) (v : Version) (l : Layout) (m : Memory) (q : Asked)
     (limit : ℕ) (crash another : Option Crash) (segments : List CoreMapRange) (pointers : List ℕ) (class : Option ℕ)
@@ -173,7 +215,9 @@ unfolding salvaged_or_searched salvaged_at
 interpreters_same c machine k v l m q limit crash another segments pointers =
     let first = salvaged_at c machine k v l m q limit crash in
     let other = salvaged_at c machine k v l m q limit another in
-    where_same first.interpreters
-    (searched_if c machine k v l m q limit crash segments pointers (code_class k) first) first
-    (searched_if c machine k v l m q limit another segments pointers (code_class k) other) other
-    (if_same c machine k v l m q limit crash another segments pointers (code_class k) first other refl) refl
+    let one = searched_if c machine k v l m q limit crash segments pointers (code_class k) first in
+    let two = searched_if c machine k v l m q limit another segments pointers (code_class k) other in
+    let named = named_candidates k v l m in
+    where_same first.interpreters (unless_named named one first) first (unless_named named two other) other
+    (unless_alike named one first two other
+    (if_same c machine k v l m q limit crash another segments pointers (code_class k) first other refl) refl) refl

@@ -10,6 +10,7 @@ use Rattle.py_fields.specs.declared.layout.Layout.{Layout}
 use Rattle.py_process.specs.Facts.{Known, symbol_known}
 use Rattle.py_process.specs.Sections.{IsSearched}
 use Rattle.py_stacks.specs.declared.asked.Asked.{Asked}
+use Rattle.py_fronts.specs.Candidates.{named_candidates}
 use Rattle.py_fronts.specs.FrameFronts.{all_members_limit}
 use Rattle.py_fronts.specs.Fronts.{fronts_reads, interpreters_fronts}
 use Rattle.py_fronts.specs.Interpreters.{Search}
@@ -47,17 +48,23 @@ abbrev pub where_none : List LockedInterpreter → SalvagedShown → SalvagedSho
 where_none [] searched first = searched
 where_none (i ∷ is) searched first = first
 
+-- where nothing names one either: a head that can be read names those that run, or none
+abbrev pub unless_named : List ℕ → SalvagedShown → SalvagedShown → SalvagedShown
+unless_named [] searched first = searched
+unless_named (a ∷ rest) searched first = first
+
 -- the class of codes, by its symbol
 abbrev pub code_class : Known → Option ℕ
 code_class k = symbol_known k (codes "PyCode_Type")
 
--- what is left of a process; where no interpreter is shown, what the search of its heap finds
+-- what is left of a process; where no interpreter is shown, and nothing names one, what the search of its heap finds
 unfoldable pub salvaged_or_searched : (ℕ → Bool) → Machine → Known → Version → Layout → Memory → Asked → (limit : ℕ)
     → Option Crash → List CoreMapRange → (pointers : List ℕ) → SalvagedShown
 salvaged_or_searched contains machine k v l m q limit crash segments pointers =
     let first = salvaged_at contains machine k v l m q limit crash in
     where_none first.interpreters
-    (searched_if contains machine k v l m q limit crash segments pointers (code_class k) first) first
+    (unless_named (named_candidates k v l m)
+    (searched_if contains machine k v l m q limit crash segments pointers (code_class k) first) first) first
 
 -- ---- its reads
 
@@ -78,7 +85,7 @@ searched_reads contains l m q limit segments pointers (Some class) =
 abbrev pub all_reads : (ℕ → Bool) → Known → Version → Layout → Memory → Asked → (limit : ℕ) → List CoreMapRange
     → (pointers : List ℕ) → ℕ
 all_reads contains k v l m q limit segments pointers =
-    salvage_reads contains k v l m q limit
+    salvage_reads contains k v l m q limit + (7 + 2 * length (named_candidates k v l m))
     + searched_reads contains l m q limit segments pointers (code_class k)
 
 -- what the reader of all owes: each read is one of fewer than 65536 bytes, or of exactly a section

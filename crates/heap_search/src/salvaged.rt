@@ -15,7 +15,9 @@ use elf64_core::Machine;
 use image_memory::{ContainsAddr, CoreMapRange};
 use process_memory::ProcessMemory;
 use py_fields::{Layout, Version};
-use py_fronts::{Crash, Looked, Salvaged, read_interpreters, salvage, with_locks};
+use py_fronts::{
+    Crash, Looked, Salvaged, named_candidates, read_interpreters, salvage, with_locks,
+};
 use py_process::PythonProcessInfo;
 use py_stacks::{Asked, StackError};
 use std::alloc::Global;
@@ -70,13 +72,14 @@ fn show_found<M: ContainsAddr, P: ProcessMemory>(
     })
 }
 
-/// What is left of a process's stacks, as `py_fronts::salvage` has it; and where no interpreter is shown, and a symbol
-/// of the images names the class of codes (`PyCode_Type`), those that are found in its heap, as `search_heap` has them:
-/// each is marked as found by search.
+/// What is left of a process's stacks, as `py_fronts::salvage` has it; and where no interpreter is shown, nothing names
+/// one (`py_fronts::named_candidates`), and a symbol of the images names the class of codes (`PyCode_Type`), those that
+/// are found in its heap, as `search_heap` has them: each is marked as found by search. A head that can be read and names
+/// none says that Python doesn't run, as before its start and after its end.
 ///
 /// `segments` are the load segments of the core, and `pointers` the thread pointers that its status records tell. What
 /// was looked at is that of both searches together. The one error is out of memory. The reads are those of `salvage`,
-/// and behind these those of `search_heap`, of the threads of what it found, and 3 for each lock.
+/// and behind these those of `named_candidates`, of `search_heap`, of the threads of what it found, and 3 for each lock.
 pub fn salvage_or_search<M: ContainsAddr, P: ProcessMemory>(
     alloc: Global,
     info: &PythonProcessInfo<M>,
@@ -106,6 +109,10 @@ pub fn salvage_or_search<M: ContainsAddr, P: ProcessMemory>(
     let Some(class) = code_class(info) else {
         return Ok(first);
     };
+    let named = named_candidates(alloc, info, process, version, layout)?;
+    if !named.is_empty() {
+        return Ok(first);
+    }
     let search = search_heap(
         alloc, &info.maps, process, layout, segments, pointers, class,
     )?;

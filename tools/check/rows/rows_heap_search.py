@@ -4,7 +4,7 @@ from typing import Dict, Iterator, List, Sequence, Tuple
 
 from made import EXAMPLE, Objects, Segment, Symbol, core_file, image_file, layout_of
 from row import Row
-from rows_salvage import GOOD, broken_tree, named, salvage, status_record, text_of_json
+from rows_salvage import GOOD, RUNTIME, broken_tree, named, salvage, status_record, text_of_json
 from small_core import BSS, CODE, HEAP, MODULE_CODE, TEXT, THREAD, bss, files_of, heap, mapped
 
 CODES = 0x5F0000
@@ -100,7 +100,11 @@ def several() -> Iterator[Row]:
 
 
 def beside() -> Iterator[Row]:
-    """Where one is shown, the heap isn't looked at."""
+    """Where one is shown, or the head says that none runs, the heap isn't looked at."""
     objects, (one, _) = threaded(2)
+    image = image_file([Segment(0x400000, b"", 5, 0x1000)], (BSS, 16), [Symbol("PyCode_Type", CODES), Symbol("_PyRuntime", RUNTIME)])
+    maps = [known().segment(6), mapped(), bss(0, 0), Segment(RUNTIME, bytes(592), 6)]
+    yield salvage("heap search: beside a head that names none", GOOD, files_of(core_file(maps, [status_record(11, 4, 0x7F00)]), program=image),
+                  line=none_found(3, 0))
     yield salvage("heap search: beside one that is named", GOOD, named(objects, one, notes=[status_record(11, 4, 1)]),
                   f"{SIGNAL}Python v3.9.0\n\nThread 0x1 (crashed)\n")
