@@ -16,6 +16,10 @@ pub returns : goal.returns
 returns c =
     let here = over_this (regions_of c.args.process.now.dump)
     (ap (λ (s : Seen). s.pieces) (c.new-view.ensures ∙ c.view.ensures)) c.salvage_or_search.ensures.answer in
-    salvages_by (asked_salvage c.args.words.now) c.args.process.now c.args.crash _ _ c.salvage_or_search.result
-    (record { are = c.maps.ensures.are; told = c.in_ok-pointers.ensures })
-    (rw (c.machine.ensures, c.core-core.ensures.same) at here)
+    salvages_by (asked_salvage c.args.words.now) c.args.process.now c.args.crash c.maps.result.now.items
+    c.in_ok-pointers.pointers.items c.salvage_or_search.result
+    (record {
+      are = rw c.core-core.ensures.same at c.maps.ensures.are;
+      told = rw c.core-core.ensures.same at c.in_ok-pointers.ensures;
+    })
+    (rw (c.machine.ensures, c.core-core.ensures.same, c.deref.ensures.value, c.deref-2.ensures.value) at here)
