@@ -139,14 +139,17 @@ members_text (Members.Lost f) = codes " (? sub-exceptions)"
 abbrev pub group_text : Bool → Option Value → Members → List ℕ
 group_text is_raw said own = str_text is_raw said ++ members_text own
 
+-- of what can't be encoded
 abbrev pub encode_text : Bool → Option Value → InvalidData → Option Values → List ℕ
 encode_text is_raw encoding d arguments =
     unicode_text Encode is_raw encoding d arguments (coded_shown encoding d)
 
+-- of what can't be decoded
 abbrev pub decode_text : Bool → Option Value → InvalidData → Option Values → List ℕ
 decode_text is_raw encoding d arguments =
     unicode_text Decode is_raw encoding d arguments (coded_shown encoding d)
 
+-- of what can't be translated
 abbrev pub translate_text : Bool → InvalidData → Option Values → List ℕ
 translate_text is_raw d arguments = unicode_text Translate is_raw None d arguments (data_shown d)
 

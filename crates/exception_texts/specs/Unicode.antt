@@ -30,10 +30,12 @@ one_shown None at = Unknown
 one_shown (Some unit.Outside) at = Several at at
 one_shown (Some (unit.Is n)) at = One n at
 
+-- data from one place to before another one
 abbrev pub span_shown : Option Unit → ℕ → ℕ → Shown
 span_shown first start end =
     if nat_eq (before end) start then one_shown first start else Several start (before end)
 
+-- the same, where both places are known
 abbrev pub place_shown : Option Unit → Option ℕ → Option ℕ → Shown
 place_shown first None end = Unknown
 place_shown first (Some start) None = Unknown
@@ -66,6 +68,7 @@ abbrev pub coded_shown : Option Value → InvalidData → Shown
 coded_shown encoding d =
     object_shown d.object (is_whole encoding && is_whole d.reason) (place_shown d.first d.start d.end)
 
+-- what is said can be told
 abbrev pub is_known : Shown → Bool
 is_known Nothing = true
 is_known (One n at) = true
@@ -80,12 +83,15 @@ signed_text n = signed_decimal (cast_signed w64 n)
 unfoldable pub number_text : ℕ → List ℕ
 number_text n = hex_text n
 
+-- the same in quotes
 abbrev pub quoted_number : ℕ → List ℕ
 quoted_number n = codes "'" ++ (number_text n ++ codes "'")
 
+-- one character, by its number
 abbrev pub character_text : ℕ → List ℕ
 character_text n = codes "character " ++ quoted_number n
 
+-- one byte, in two hexadecimal digits
 abbrev pub byte_text : ℕ → List ℕ
 byte_text n = codes "byte 0x" ++ hex_of 2 n
 
@@ -95,25 +101,31 @@ one_text Encode n = character_text n
 one_text Decode n = byte_text n
 one_text Translate n = character_text n
 
+-- several of them
 abbrev pub several_text : Deed → List ℕ
 several_text Encode = codes "characters"
 several_text Decode = codes "bytes"
 several_text Translate = codes "characters"
 
+-- the coding, by its name
 abbrev pub codec_text : Bool → Option Value → List ℕ
 codec_text is_raw encoding = codes "'" ++ (str_text is_raw encoding ++ codes "' codec ")
 
+-- what could not be done
 abbrev pub deed_text : Deed → Bool → Option Value → List ℕ
 deed_text Encode is_raw encoding = codec_text is_raw encoding ++ codes "can't encode "
 deed_text Decode is_raw encoding = codec_text is_raw encoding ++ codes "can't decode "
 deed_text Translate is_raw encoding = codes "can't translate "
 
+-- why
 abbrev pub reason_text : Bool → InvalidData → List ℕ
 reason_text is_raw d = codes ": " ++ str_text is_raw d.reason
 
+-- one of what can't be coded, and its place
 abbrev pub one_said : Deed → ℕ → ℕ → List ℕ
 one_said deed n at = one_text deed n ++ (codes " in position " ++ signed_text at)
 
+-- several, and the places of the first and the last one
 abbrev pub several_said : Deed → ℕ → ℕ → List ℕ
 several_said deed first last =
     several_text deed ++ (codes " in position " ++ (signed_text first ++ (codes "-" ++ signed_text last)))
