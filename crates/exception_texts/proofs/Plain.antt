@@ -96,6 +96,9 @@ ruled (rule.System e t f s) = refl
 ruled (rule.Import t) = refl
 ruled (rule.Syntax t f l) = refl
 ruled (rule.Group t) = refl
+ruled (rule.Encode encoding d) = refl
+ruled (rule.Decode encoding d) = refl
+ruled (rule.Translate d) = refl
 ruled (rule.Own class) = refl
 ruled rule.Unreadable = refl
 

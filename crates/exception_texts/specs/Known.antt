@@ -1,10 +1,13 @@
 -- What an exception says is told exactly as Python's `str` does: each value in it is one whose text is known.
-use Rattle.std.specs.Prelude.{ℕ, nat_eq, nat_lt, nat_le, not, ◌||◌, ◌&&◌, Bool, true, false, if◌then◌else◌, List, [], ◌∷◌}
+use Rattle.std.specs.Prelude.{ℕ, nat_eq, nat_lt, nat_le, not, ◌||◌, ◌&&◌, Bool, true, false, if◌then◌else◌, List, []}
+use Rattle.std.specs.Prelude.{◌∷◌}
 use Rattle.std.specs.Prelude.{Option, Some, None, encode_utf8_all}
 use Rattle.std.specs.List.{list_all, list_any}
 use Rattle.exception_texts.specs.Said.{has_value, is_number, is_text}
+use Rattle.exception_texts.specs.Unicode.{coded_shown, data_shown, is_known}
 use Rattle.py_exceptions.specs.declared.value.Value.{Value}
-use Rattle.py_exceptions.specs.declared.value.Value.TheVariants.{Absent, Text, LongText, Number, LongNumber, Truth, Nothing}
+use Rattle.py_exceptions.specs.declared.value.Value.TheVariants.{Absent, Text, LongText, Number, LongNumber, Truth}
+use Rattle.py_exceptions.specs.declared.value.Value.TheVariants.{Nothing}
 use Rattle.py_exceptions.specs.declared.value.Value.TheVariants.{Float, Other}
 use Rattle.py_exceptions.specs.declared.values.Values.{Values}
 use Rattle.py_exceptions.specs.declared.said.Said.{Said}
@@ -106,6 +109,9 @@ rule_knows (rule.System errno said file second) arguments own = system_known err
 rule_knows (rule.Import said) arguments own = import_known said arguments
 rule_knows (rule.Syntax said file line) arguments own = syntax_known said file line
 rule_knows (rule.Group said) arguments own = str_known said && has_members own
+rule_knows (rule.Encode encoding d) arguments own = is_known (coded_shown encoding d)
+rule_knows (rule.Decode encoding d) arguments own = is_known (coded_shown encoding d)
+rule_knows (rule.Translate d) arguments own = is_known (data_shown d)
 rule_knows (rule.Own class) arguments own = false
 rule_knows rule.Unreadable arguments own = false
 

@@ -7,4 +7,5 @@ pub mod Roots
 pub mod Said
 pub mod Text
 pub mod Trees
+pub mod Unicode
 pub mod Values

@@ -1,6 +1,6 @@
--- In which order exceptions are shown: as Python does (`TracebackException.format`, Lib/traceback.py), an exception's cause
--- stands before it, or its context, unless that is suppressed, and the members of a group behind it. That each has its
--- lines once, and how many lines there are, is this project's rule.
+-- In which order exceptions are shown: as Python does (`TracebackException.format`, Lib/traceback.py), an exception's
+-- cause stands before it, or its context, unless that is suppressed, and the members of a group behind it. That each
+-- has its lines once, and how many lines there are, is this project's rule.
 use Rattle.std.specs.Prelude.{ℕ, zero, suc, nat_eq, nat_lt, ◌+◌, ◌||◌, ◌≡◌, Bool, true, false, if◌then◌else◌, List, []}
 use Rattle.std.specs.Prelude.{◌∷◌, ◌++◌, map, position, reverse, slice_get, Option, Some, None}
 use Rattle.std.specs.List.{list_any}

@@ -1,10 +1,15 @@
 -- What an exception says: the text that `str` gives, by the rule of its class (`BaseException_str`, `KeyError_str`,
--- `OSError_str`, `ImportError_str`, `SyntaxError_str`, `BaseExceptionGroup_str`: Objects/exceptions.c).
+-- `OSError_str`, `ImportError_str`, `SyntaxError_str`, `BaseExceptionGroup_str`: Objects/exceptions.c; those of
+-- Unicode's errors).
 use Rattle.std.specs.Prelude.{ℕ, ◌++◌, ◌+◌, ◌==◌, ◌&&◌, Bool, true, false, if◌then◌else◌, List, [], ◌∷◌, length, Option}
 use Rattle.std.specs.Prelude.{Some, None, codes, decimal}
-use Rattle.exception_texts.specs.Values.{repr_text, str_text, tuple_text}
+use Rattle.exception_texts.specs.Unicode.{coded_shown, data_shown, unicode_text}
+use Rattle.exception_texts.specs.Values.{arguments_text, repr_text, str_text, tuple_text}
+use Rattle.exception_texts.specs.declared.unicode.Deed.TheVariants.{Encode, Decode, Translate}
+use Rattle.py_exceptions.specs.declared.unicode.InvalidData.{InvalidData}
 use Rattle.py_exceptions.specs.declared.value.Value.{Value}
-use Rattle.py_exceptions.specs.declared.value.Value.TheVariants.{Absent, Text, LongText, Number, LongNumber, Truth, Nothing}
+use Rattle.py_exceptions.specs.declared.value.Value.TheVariants.{Absent, Text, LongText, Number, LongNumber, Truth}
+use Rattle.py_exceptions.specs.declared.value.Value.TheVariants.{Nothing}
 use Rattle.py_exceptions.specs.declared.value.Value.TheVariants.{Float, Other}
 use Rattle.py_exceptions.specs.declared.values.Values.{Values}
 use Rattle.py_exceptions.specs.declared.said.Said.{Said}
@@ -48,11 +53,6 @@ is_number (Some (Truth truth)) = false
 is_number (Some (Float bits)) = false
 is_number (Some (Other a class)) = false
 is_number None = false
-
--- the arguments, in parentheses
-abbrev pub arguments_text : Bool → Option Values → List ℕ
-arguments_text is_raw None = codes "?"
-arguments_text is_raw (Some values) = tuple_text is_raw values
 
 -- nothing by none, one as it is printed, more in parentheses
 abbrev pub by_items : Bool → List (Option Value) → Values → List ℕ
@@ -139,6 +139,20 @@ members_text (Members.Lost f) = codes " (? sub-exceptions)"
 abbrev pub group_text : Bool → Option Value → Members → List ℕ
 group_text is_raw said own = str_text is_raw said ++ members_text own
 
+-- of what can't be encoded
+abbrev pub encode_text : Bool → Option Value → InvalidData → Option Values → List ℕ
+encode_text is_raw encoding d arguments =
+    unicode_text Encode is_raw encoding d arguments (coded_shown encoding d)
+
+-- of what can't be decoded
+abbrev pub decode_text : Bool → Option Value → InvalidData → Option Values → List ℕ
+decode_text is_raw encoding d arguments =
+    unicode_text Decode is_raw encoding d arguments (coded_shown encoding d)
+
+-- of what can't be translated
+abbrev pub translate_text : Bool → InvalidData → Option Values → List ℕ
+translate_text is_raw d arguments = unicode_text Translate is_raw None d arguments (data_shown d)
+
 abbrev pub by_rule : Bool → Rule → Option Values → Members → List ℕ
 by_rule is_raw rule.Plain arguments own = plain_said is_raw arguments
 by_rule is_raw rule.Key arguments own = key_text is_raw arguments
@@ -146,9 +160,12 @@ by_rule is_raw (rule.System errno said file second) arguments own = system_text 
 by_rule is_raw (rule.Import said) arguments own = import_text is_raw said arguments
 by_rule is_raw (rule.Syntax said file line) arguments own = syntax_text is_raw said file line
 by_rule is_raw (rule.Group said) arguments own = group_text is_raw said own
+by_rule is_raw (rule.Encode encoding d) arguments own = encode_text is_raw encoding d arguments
+by_rule is_raw (rule.Decode encoding d) arguments own = decode_text is_raw encoding d arguments
+by_rule is_raw (rule.Translate d) arguments own = translate_text is_raw d arguments
 by_rule is_raw (rule.Own class) arguments own = arguments_text is_raw arguments
 by_rule is_raw rule.Unreadable arguments own = arguments_text is_raw arguments
 
--- what an exception says; its arguments in parentheses, where only code of its own could tell
+-- what an exception says; its arguments in parentheses, where that can't be told
 abbrev pub message_text : Bool → Said → Members → List ℕ
 message_text is_raw s own = by_rule is_raw s.rule s.arguments own

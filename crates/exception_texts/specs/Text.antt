@@ -1,6 +1,6 @@
--- The lines of exceptions, as Python shows them: an exception's cause or context stands before it, with a sentence between
--- (`TracebackException.format`, Lib/traceback.py). No line of an exception can be taken for another: its class is in quotes
--- where a space or a colon is in it, and its other lines stand between two steps of 8 characters.
+-- The lines of exceptions, as Python shows them: an exception's cause or context stands before it, with a sentence
+-- between (`TracebackException.format`, Lib/traceback.py). No line of an exception can be taken for another: its class
+-- is in quotes where a space or a colon is in it, and its other lines stand between two steps of 8 characters.
 use Rattle.std.specs.Prelude.{ℕ, nat_eq, not, ◌||◌, ◌&&◌, ◌++◌, Bool, true, false, if◌then◌else◌, List, [], ◌∷◌, map}
 use Rattle.std.specs.Prelude.{Option, Some, None, codes, decimal, bytes_eq, encode_utf8_all, position, slice_get}
 use Rattle.std.specs.Fmt.{digits}
@@ -11,6 +11,7 @@ use Rattle.exception_texts.specs.Frames.{trace_text}
 use Rattle.exception_texts.specs.Plan.{is_at, lines_of}
 use Rattle.exception_texts.specs.Roots.{roots_of}
 use Rattle.exception_texts.specs.Said.{message_text}
+use Rattle.exception_texts.specs.Unicode.{coded_shown, data_shown, is_known}
 use Rattle.exception_texts.specs.Values.{name_text, str_text}
 use Rattle.exception_texts.specs.declared.plan.Line.{Line}
 use Rattle.exception_texts.specs.declared.plan.Line.TheVariants as line
@@ -105,6 +106,9 @@ tells_arguments (rule.System e t f s) = false
 tells_arguments (rule.Import t) = false
 tells_arguments (rule.Syntax t f l) = false
 tells_arguments (rule.Group t) = false
+tells_arguments (rule.Encode encoding d) = not (is_known (coded_shown encoding d))
+tells_arguments (rule.Decode encoding d) = not (is_known (coded_shown encoding d))
+tells_arguments (rule.Translate d) = not (is_known (data_shown d))
 
 unfoldable pub arguments_lead : List ℕ
 arguments_lead = codes " with the arguments "

@@ -2,7 +2,8 @@
 use Rattle.std.specs.Prelude.{ℕ, zero, suc, nat_eq, ◌++◌, Bool, true, false, if◌then◌else◌, List, [], ◌∷◌, length, map}
 use Rattle.std.specs.Prelude.{Option, Some, None, codes, encode_utf8_all, slice_get}
 use Rattle.std.specs.Fmt.{digits}
-use Rattle.serde_json.specs.Data.{Data, Members as Keys, array, boolean, member, no_members, null, number, object, string}
+use Rattle.serde_json.specs.Data.{Data, Members as Keys, array, boolean, member, no_members, null, number, object}
+use Rattle.serde_json.specs.Data.{string}
 use Rattle.serde_json.specs.Data.{unsigned}
 use Rattle.serde_json.specs.View.{items_of}
 use Rattle.exception_texts.specs.Frames.{shown_line}
@@ -134,6 +135,9 @@ rule_tree (rule.System e t f s) = word_tree (codes "OSError")
 rule_tree (rule.Import t) = word_tree (codes "ImportError")
 rule_tree (rule.Syntax t f l) = word_tree (codes "SyntaxError")
 rule_tree (rule.Group t) = word_tree (codes "BaseExceptionGroup")
+rule_tree (rule.Encode encoding d) = word_tree (codes "UnicodeEncodeError")
+rule_tree (rule.Decode encoding d) = word_tree (codes "UnicodeDecodeError")
+rule_tree (rule.Translate d) = word_tree (codes "UnicodeTranslateError")
 rule_tree (rule.Own class) = own_class_tree class
 rule_tree rule.Unreadable = null
 

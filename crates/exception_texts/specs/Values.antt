@@ -1,11 +1,13 @@
 -- Values that an exception has, within a line: as code has them (`repr`), and as they are printed (`str`).
-use Rattle.std.specs.Prelude.{ℕ, ◌++◌, ◌==◌, Bool, true, false, if◌then◌else◌, List, [], ◌∷◌, map, Option, Some, None, codes}
+use Rattle.std.specs.Prelude.{ℕ, ◌++◌, ◌==◌, Bool, true, false, if◌then◌else◌, List, [], ◌∷◌, map, Option, Some, None}
+use Rattle.std.specs.Prelude.{codes}
 use Rattle.std.specs.Prelude.{decimal, encode_utf8_all}
 use Rattle.std.specs.Fmt.{digits, signed_decimal}
 use Rattle.std.specs.List.{concat}
 use Rattle.salvage_texts.specs.Escape.{escaped}
 use Rattle.py_exceptions.specs.declared.value.Value.{Value}
-use Rattle.py_exceptions.specs.declared.value.Value.TheVariants.{Absent, Text, LongText, Number, LongNumber, Truth, Nothing}
+use Rattle.py_exceptions.specs.declared.value.Value.TheVariants.{Absent, Text, LongText, Number, LongNumber, Truth}
+use Rattle.py_exceptions.specs.declared.value.Value.TheVariants.{Nothing}
 use Rattle.py_exceptions.specs.declared.value.Value.TheVariants.{Float, Other}
 use Rattle.py_exceptions.specs.declared.values.Values.{Values}
 
@@ -85,3 +87,8 @@ left_out_text n = if n == 0 then [] else codes ", and " ++ (decimal n ++ codes "
 
 abbrev pub tuple_text : Bool → Values → List ℕ
 tuple_text is_raw v = codes "(" ++ (values_text is_raw v.values.items ++ (left_out_text v.left_out ++ codes ")"))
+
+-- the arguments, in parentheses
+abbrev pub arguments_text : Bool → Option Values → List ℕ
+arguments_text is_raw None = codes "?"
+arguments_text is_raw (Some values) = tuple_text is_raw values

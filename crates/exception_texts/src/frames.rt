@@ -1,7 +1,9 @@
 //! The lines of an exception: its own, its traceback, its notes and its members.
 ghost use Rattle.std.specs.Prelude.{◌≡◌, ◌++◌, OnOk, string_bytes};
-ghost use Rattle.exception_texts.specs.Frames.{address_end, behind_text, end_text, entries_text, entry_text, frame_text};
-ghost use Rattle.exception_texts.specs.Frames.{indent_text, left_out_line, shown_line, line_number, lost_line, lost_notes, lost_text};
+ghost use Rattle.exception_texts.specs.Frames.{address_end, behind_text, end_text, entries_text, entry_text};
+ghost use Rattle.exception_texts.specs.Frames.{frame_text};
+ghost use Rattle.exception_texts.specs.Frames.{indent_text, left_out_line, shown_line, line_number, lost_line};
+ghost use Rattle.exception_texts.specs.Frames.{lost_notes, lost_text};
 ghost use Rattle.exception_texts.specs.Frames.{more_text, note_line, note_lines, notes_text, on_line, own_frame_text};
 ghost use Rattle.exception_texts.specs.Frames.{some_notes, steps_text, trace_text};
 

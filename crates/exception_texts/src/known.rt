@@ -1,11 +1,14 @@
 //! Whether what an exception says is told exactly as Python's `str` does.
 ghost use Rattle.std.specs.Prelude.{◌≡◌};
 ghost use Rattle.thread_exceptions.specs.Groups.{members_of};
-ghost use Rattle.exception_texts.specs.Known.{all_repr, has_members, has_special, import_known, is_plain, is_special, key_known};
+ghost use Rattle.exception_texts.specs.Known.{all_repr, has_members, has_special, import_known, is_plain, is_special};
+ghost use Rattle.exception_texts.specs.Known.{key_known};
 ghost use Rattle.exception_texts.specs.Known.{key_values, knows, plain_known, plain_values, repr_known, str_known};
-ghost use Rattle.exception_texts.specs.Known.{syntax_known, system_known, tuple_known, with_file_known, without_file_known};
+ghost use Rattle.exception_texts.specs.Known.{syntax_known, system_known, tuple_known, with_file_known};
+ghost use Rattle.exception_texts.specs.Known.{without_file_known};
 
 use crate::said::{has_value, is_number, is_text};
+use crate::unicode::{coded_shown, data_shown, is_known};
 use elf64_core::Text;
 use py_exceptions::{Rule, Said, Value, Values};
 use thread_exceptions::Members;
@@ -218,6 +221,9 @@ pub(crate) fn knows(said: &Said, members: &Members) -> bool
         Rule::Import { text } => import_known(text, arguments),
         Rule::Syntax { text, file, line } => syntax_known(text, file, line),
         Rule::Group { text } => str_known(text) && has_members(members),
+        Rule::Encode { encoding, invalid } => is_known(coded_shown(encoding, invalid)),
+        Rule::Decode { encoding, invalid } => is_known(coded_shown(encoding, invalid)),
+        Rule::Translate { invalid } => is_known(data_shown(invalid)),
         Rule::Own { .. } => false,
         Rule::Unreadable => false,
     }

@@ -119,14 +119,15 @@ fn push_whole(
 
 /// Appends the lines of the exceptions of some interpreters, in order.
 ///
-/// Of a thread that neither raises nor handles any there are none. Of another one the first line is `Exceptions of thread
-/// 0x7F..:`, and behind `Raised:` and each `Handling:` stand the exceptions, indented: the cause of each before it, or its
-/// context unless that is suppressed, with the sentence that Python has between them; behind its own line its notes in
-/// quotes, its traceback, the oldest call first, and the members of a group, indented further. An exception has its lines
-/// once, and is named by its class and address elsewhere. What can't be read has a line that begins with three points.
+/// Of a thread that neither raises nor handles any there are none. Of another one the first line is `Exceptions of
+/// thread 0x7F..:`, and behind `Raised:` and each `Handling:` stand the exceptions, indented: the cause of each before
+/// it, or its context unless that is suppressed, with the sentence that Python has between them; behind its own line
+/// its notes in quotes, its traceback, the oldest call first, and the members of a group, indented further. An
+/// exception has its lines once, and is named by its class and address elsewhere. What can't be read has a line that
+/// begins with three points.
 ///
-/// Behind an interpreter's threads stands the last exception that no code handled, where its `sys` has one, below a line
-/// that says under which name, or the line that this can't be read. The one error is want of memory.
+/// Behind an interpreter's threads stands the last exception that no code handled, where its `sys` has one, below a
+/// line that says under which name, or the line that this can't be read. The one error is want of memory.
 pub fn push_exceptions(
     alloc: Global,
     text: &mut String,

@@ -1,11 +1,13 @@
 //! Exceptions, as a JSON value, by interpreters: those of its threads, and the last one that no code handled.
 ghost use Rattle.std.specs.Prelude.{◌≡◌, IfOk, map};
 ghost use Rattle.serde_json.specs.View.{view};
-ghost use Rattle.exception_texts.specs.LastTrees.{all_exceptions_tree, alone_tree, found_tree, interpreter_tree, kind_tree};
+ghost use Rattle.exception_texts.specs.LastTrees.{all_exceptions_tree, alone_tree, found_tree, interpreter_tree};
+ghost use Rattle.exception_texts.specs.LastTrees.{kind_tree};
 ghost use Rattle.exception_texts.specs.LastTrees.{last_tree, lost_last_tree, of_tree};
 
+use crate::thread_tree::threads_value;
 use crate::told::{ExceptionsOf, InterpreterExceptions};
-use crate::tree::{address_text, objects_value, threads_value};
+use crate::tree::{address_text, objects_value};
 use py_exceptions::{LastException, LastFound, LastName, ToldThread, key_of};
 use serde_json::{Value, json};
 use std::alloc::{AllocError, Global};
@@ -102,22 +104,22 @@ fn interpreter_value(alloc: Global, told: &InterpreterExceptions) -> Result<Valu
     of_value(alloc, told.interpreter, last, &told.exceptions)
 }
 
-/// The exceptions as a JSON value: an array of an object for each interpreter, in order, with its address, a `kind`, which
-/// is `read` or `not described`, its `threads`, or null, and the `last` exception that no code handled.
+/// The exceptions as a JSON value: an array of an object for each interpreter, in order, with its address, a `kind`,
+/// which is `read` or `not described`, its `threads`, or null, and the `last` exception that no code handled.
 ///
-/// That is null where its `sys` has none; an `exception` at an `address`, with the `name` under which `sys` has it and the
-/// `exceptions` that it leads to, each once, itself first; or `unreadable`, with that name.
+/// That is null where its `sys` has none; an `exception` at an `address`, with the `name` under which `sys` has it and
+/// the `exceptions` that it leads to, each once, itself first; or `unreadable`, with that name.
 ///
-/// A thread has its `thread_id`; what is `raised`, or null: an `exception` at an `address`, or `parts`, a type and what an
-/// exception is made of; the items that are `handled`, the newest first, each with the `address` that it names, or null,
-/// and the address of what is `running` where it is a generator's or a coroutine's; how the chain of items breaks off, its
-/// `end`, or null; and the `exceptions` that these lead to, each once.
+/// A thread has its `thread_id`; what is `raised`, or null: an `exception` at an `address`, or `parts`, a type and what
+/// an exception is made of; the items that are `handled`, the newest first, each with the `address` that it names, or
+/// null, and the address of what is `running` where it is a generator's or a coroutine's; how the chain of items breaks
+/// off, its `end`, or null; and the `exceptions` that these lead to, each once.
 ///
-/// An exception has its `address`, its `type`, its `message` where that is told exactly as Python shows it, whose rule gives
-/// that (`message_by`), its `args` as code has them, the `frames` of its traceback, the oldest call first, of which
-/// `frames_left_out` are missing behind the first 128, how the traceback breaks off, its `end`, its `cause` and its
-/// `context` by their addresses, whether that is suppressed, its `notes` and the `members` of a group. The keys of an object
-/// stand in the order of their bytes. The one error is want of memory.
+/// An exception has its `address`, its `type`, its `message` where that is told exactly as Python shows it, whose rule
+/// gives that (`message_by`), its `args` as code has them, the `frames` of its traceback, the oldest call first, of
+/// which `frames_left_out` are missing behind the first 128, how the traceback breaks off, its `end`, its `cause` and
+/// its `context` by their addresses, whether that is suppressed, its `notes` and the `members` of a group. The keys of
+/// an object stand in the order of their bytes. The one error is want of memory.
 pub fn exceptions_value(
     alloc: Global,
     exceptions: &[InterpreterExceptions],

@@ -1,6 +1,7 @@
 //! In which order exceptions are shown: each once, behind its cause or its context, and its members behind it.
 ghost use Rattle.std.specs.Prelude.{◌≡◌, ◌++◌, [], ◌∷◌, IfOk, OnOk, map, position, reverse};
-ghost use Rattle.exception_texts.specs.Plan.{Takes, after, before, context_first, deeper, expand, expand_at, finish, has};
+ghost use Rattle.exception_texts.specs.Plan.{Takes, after, before, context_first, deeper, expand, expand_at, finish};
+ghost use Rattle.exception_texts.specs.Plan.{has};
 ghost use Rattle.exception_texts.specs.Plan.{is_at, leads, lines_of, say, show, state_of, step, turn, turns};
 
 use std::alloc::{AllocError, Global};

@@ -1,13 +1,16 @@
 //! What an exception says, as `str` gives it.
 ghost use Rattle.std.specs.Prelude.{◌≡◌, ◌++◌, OnOk, string_bytes};
 ghost use Rattle.thread_exceptions.specs.Groups.{members_of};
-ghost use Rattle.exception_texts.specs.Said.{arguments_text, behind_file, count_text, file_text, group_text, has_value};
+ghost use Rattle.exception_texts.specs.Said.{behind_file, count_text, file_text, group_text, has_value};
 ghost use Rattle.exception_texts.specs.Said.{import_text, is_number, is_text, key_text, line_alone, line_text};
 ghost use Rattle.exception_texts.specs.Said.{members_text, message_text, number_text, one_text, place_text, plain_said};
-ghost use Rattle.exception_texts.specs.Said.{second_text, syntax_text, system_file, system_lead, with_file, without_file};
+ghost use Rattle.exception_texts.specs.Said.{decode_text, encode_text, translate_text};
+ghost use Rattle.exception_texts.specs.Said.{second_text, syntax_text, system_file, system_lead, with_file};
+ghost use Rattle.exception_texts.specs.Said.{without_file};
 
-use crate::values::{push_repr, push_str_of, push_tuple};
-use py_exceptions::{Rule, Said, Value, Values};
+use crate::unicode::{Deed, coded_shown, data_shown, push_unicode};
+use crate::values::{push_arguments, push_repr, push_str_of, push_tuple};
+use py_exceptions::{InvalidData, Rule, Said, Value, Values};
 use std::alloc::{AllocError, Global};
 use thread_exceptions::Members;
 
@@ -62,21 +65,6 @@ pub(crate) fn is_number(value: &Option<Value>) -> bool
         Some(Value::Float { .. }) => false,
         Some(Value::Other { .. }) => false,
         None => false,
-    }
-}
-
-/// The arguments in parentheses, or a question mark where they can't be read.
-fn push_arguments(
-    alloc: Global,
-    text: &mut String,
-    is_raw: bool,
-    arguments: &Option<Values>,
-) -> Result<(), AllocError>
-    ensures { OnOk result (string_bytes text.new ≡ string_bytes text.old ++ arguments_text is_raw arguments.now) }
-{
-    match arguments {
-        Some(values) => push_tuple(alloc, text, is_raw, values),
-        None => text.push_str("?"),
     }
 }
 
@@ -373,7 +361,81 @@ fn push_group(
     push_count(text, members)
 }
 
-/// What an exception says. Where only code of its own could tell, its arguments, in parentheses.
+/// `UnicodeEncodeError`'s rule.
+fn push_encode(
+    alloc: Global,
+    text: &mut String,
+    is_raw: bool,
+    encoding: &Option<Value>,
+    invalid: &InvalidData,
+    arguments: &Option<Values>,
+) -> Result<(), AllocError>
+    ensures { OnOk result (string_bytes text.new
+        ≡ string_bytes text.old ++ encode_text is_raw encoding.now invalid.now arguments.now) }
+{
+    let shown = coded_shown(encoding, invalid);
+    push_unicode(
+        alloc,
+        text,
+        Deed::Encode,
+        is_raw,
+        encoding,
+        invalid,
+        arguments,
+        shown,
+    )
+}
+
+/// `UnicodeDecodeError`'s rule.
+fn push_decode(
+    alloc: Global,
+    text: &mut String,
+    is_raw: bool,
+    encoding: &Option<Value>,
+    invalid: &InvalidData,
+    arguments: &Option<Values>,
+) -> Result<(), AllocError>
+    ensures { OnOk result (string_bytes text.new
+        ≡ string_bytes text.old ++ decode_text is_raw encoding.now invalid.now arguments.now) }
+{
+    let shown = coded_shown(encoding, invalid);
+    push_unicode(
+        alloc,
+        text,
+        Deed::Decode,
+        is_raw,
+        encoding,
+        invalid,
+        arguments,
+        shown,
+    )
+}
+
+/// `UnicodeTranslateError`'s rule.
+fn push_translate(
+    alloc: Global,
+    text: &mut String,
+    is_raw: bool,
+    invalid: &InvalidData,
+    arguments: &Option<Values>,
+) -> Result<(), AllocError>
+    ensures { OnOk result (string_bytes text.new
+        ≡ string_bytes text.old ++ translate_text is_raw invalid.now arguments.now) }
+{
+    let shown = data_shown(invalid);
+    push_unicode(
+        alloc,
+        text,
+        Deed::Translate,
+        is_raw,
+        &None,
+        invalid,
+        arguments,
+        shown,
+    )
+}
+
+/// What an exception says. Where that can't be told, its arguments, in parentheses.
 pub(crate) fn push_message(
     alloc: Global,
     text: &mut String,
@@ -406,6 +468,13 @@ pub(crate) fn push_message(
             line,
         } => push_syntax(alloc, text, is_raw, own, file, line),
         Rule::Group { text: own } => push_group(alloc, text, is_raw, own, members),
+        Rule::Encode { encoding, invalid } => {
+            push_encode(alloc, text, is_raw, encoding, invalid, arguments)
+        }
+        Rule::Decode { encoding, invalid } => {
+            push_decode(alloc, text, is_raw, encoding, invalid, arguments)
+        }
+        Rule::Translate { invalid } => push_translate(alloc, text, is_raw, invalid, arguments),
         Rule::Own { .. } => push_arguments(alloc, text, is_raw, arguments),
         Rule::Unreadable => push_arguments(alloc, text, is_raw, arguments),
     }

@@ -1,16 +1,15 @@
 //! The lines of exceptions.
 ghost use Rattle.std.specs.Prelude.{◌≡◌, ◌++◌, OnOk, string_bytes};
 ghost use Rattle.thread_exceptions.specs.Groups.{members_of};
-ghost use Rattle.exception_texts.specs.Text.{arguments_lead, no_trace, own_trace, known_class, has_break, object_lead, again_line, at_end, behind_colon, by_arguments};
-ghost use Rattle.exception_texts.specs.Text.{by_text, class_at, class_text, colon_text, exception_lines, head_line};
-ghost use Rattle.exception_texts.specs.Text.{interpreter_text, is_break, is_plain_class, is_plain_name};
-ghost use Rattle.exception_texts.specs.Text.{is_plain_part, is_top, items_end, items_on, line_text, lines_text};
-ghost use Rattle.exception_texts.specs.Text.{members_end, missing_line, module_text, named_text, object_lines};
-ghost use Rattle.exception_texts.specs.Text.{own_lines, own_parts, owner_line, part_text, parts_lines};
-ghost use Rattle.exception_texts.specs.Text.{qualified_text, quote_text, says_text, sentence_line, tells_arguments};
-ghost use Rattle.exception_texts.specs.Text.{thread_text, threads_text, title_text, titled_text, told_class};
-ghost use Rattle.exception_texts.specs.Text.{told_lines, unknown_line, value_part};
+ghost use Rattle.exception_texts.specs.Text.{arguments_lead, no_trace, own_trace, object_lead, again_line, at_end};
+ghost use Rattle.exception_texts.specs.Text.{behind_colon, by_arguments, by_text, class_at, colon_text};
+ghost use Rattle.exception_texts.specs.Text.{exception_lines, head_line, interpreter_text, items_end, items_on};
+ghost use Rattle.exception_texts.specs.Text.{line_text, lines_text, members_end, missing_line, object_lines, own_lines};
+ghost use Rattle.exception_texts.specs.Text.{own_parts, owner_line, parts_lines, says_text, sentence_line};
+ghost use Rattle.exception_texts.specs.Text.{tells_arguments, thread_text, threads_text, title_text, titled_text};
+ghost use Rattle.exception_texts.specs.Text.{told_class, told_lines, unknown_line, value_part};
 
+use crate::class::push_class;
 use crate::frames::{
     push_indent, push_left_out, push_lost, push_lost_line, push_notes, push_traceback,
 };
@@ -18,149 +17,11 @@ use crate::plan::{Line, lines_of, place_of};
 use crate::roots::roots_of;
 use crate::said::push_message;
 use crate::told::{ExceptionsOf, InterpreterExceptions, ThreadTold};
-use crate::values::{push_name, push_str_of};
-use elf64_core::Text;
-use py_exceptions::{
-    ClassName, RaisedParts, Rule, Said, ToldException, ToldThread, Traceback, Value,
-};
-use salvage_texts::push_escaped;
+use crate::unicode::{coded_shown, data_shown, is_known};
+use crate::values::push_str_of;
+use py_exceptions::{RaisedParts, Rule, Said, ToldException, ToldThread, Traceback, Value};
 use std::alloc::{AllocError, Global};
 use thread_exceptions::{LinkEnd, Lost, Members, Met, Owner, What};
-
-// ---- classes
-
-/// Whether a byte could be taken for what stands behind a name.
-fn is_break(byte: u8) -> bool
-    ensures { result ≡ is_break byte }
-{
-    byte == b' ' || byte == b':'
-}
-
-/// Whether any of some bytes is one.
-fn has_break(bytes: &[u8]) -> bool
-    ensures { result ≡ has_break bytes.now }
-{
-    bytes.iter().any(|byte| is_break(*byte))
-}
-
-/// Whether a name has none.
-fn is_plain_name(name: &Text) -> bool
-    ensures { result ≡ is_plain_name name.now }
-{
-    !has_break(name.as_str().as_bytes())
-}
-
-/// The same of a name that may not be known.
-fn is_plain_part(name: &Option<Text>) -> bool
-    ensures { result ≡ is_plain_part name.now }
-{
-    match name {
-        Some(name) => is_plain_name(name),
-        None => true,
-    }
-}
-
-/// Whether all of a class's name is plain.
-fn is_plain_class(class: &Option<ClassName>) -> bool
-    ensures { result ≡ is_plain_class class.now }
-{
-    match class {
-        Some(ClassName::Whole(name)) => is_plain_name(name),
-        Some(ClassName::Parts { module, name }) => is_plain_part(module) && is_plain_part(name),
-        None => true,
-    }
-}
-
-/// Whether Python leaves a module out where it names a class.
-fn is_top(module: &Text) -> bool
-    ensures { result ≡ is_top module.now }
-{
-    module.as_str() == "builtins" || module.as_str() == "__main__"
-}
-
-/// A module in front of a class.
-fn push_module(alloc: Global, text: &mut String, module: &Text) -> Result<(), AllocError>
-    ensures { OnOk result (string_bytes text.new ≡ string_bytes text.old ++ module_text module.now) }
-{
-    if is_top(module) {
-        return Ok(());
-    }
-    push_escaped(alloc, text, true, module)?;
-    text.push_str(".")
-}
-
-/// The same, or a question mark.
-fn push_part(alloc: Global, text: &mut String, module: &Option<Text>) -> Result<(), AllocError>
-    ensures { OnOk result (string_bytes text.new ≡ string_bytes text.old ++ part_text module.now) }
-{
-    match module {
-        Some(module) => push_module(alloc, text, module),
-        None => text.push_str("?."),
-    }
-}
-
-/// A class by its module and its name.
-fn push_qualified(
-    alloc: Global,
-    text: &mut String,
-    module: &Option<Text>,
-    name: &Option<Text>,
-) -> Result<(), AllocError>
-    ensures { OnOk result (string_bytes text.new ≡ string_bytes text.old ++ qualified_text module.now name.now) }
-{
-    push_part(alloc, text, module)?;
-    push_name(alloc, text, name)
-}
-
-/// The name of a class that is known.
-pub(crate) fn push_known_class(
-    alloc: Global,
-    text: &mut String,
-    class: &ClassName,
-) -> Result<(), AllocError>
-    ensures { OnOk result (string_bytes text.new ≡ string_bytes text.old ++ known_class class.now) }
-{
-    match class {
-        ClassName::Whole(name) => push_escaped(alloc, text, true, name),
-        ClassName::Parts { module, name } => push_qualified(alloc, text, module, name),
-    }
-}
-
-/// Appends the name of a class, in which control characters, quotes and backslashes are escaped; a module that Python
-/// leaves out where it names an exception's class is left out, and `?` stands for a name that can't be read. The one error
-/// is want of memory.
-pub fn push_named(
-    alloc: Global,
-    text: &mut String,
-    class: &Option<ClassName>,
-) -> Result<(), AllocError>
-    ensures { OnOk result (string_bytes text.new ≡ string_bytes text.old ++ named_text class.now) }
-{
-    match class {
-        Some(class) => push_known_class(alloc, text, class),
-        None => text.push_str("?"),
-    }
-}
-
-/// A quote, where a name is not plain.
-fn push_quote(text: &mut String, is_plain: bool) -> Result<(), AllocError>
-    ensures { OnOk result (string_bytes text.new ≡ string_bytes text.old ++ quote_text is_plain) }
-{
-    if is_plain {
-        return Ok(());
-    }
-    text.push_str("\"")
-}
-
-/// The name of a class, in quotes where it has what could stand behind a name.
-fn push_class(alloc: Global, text: &mut String, class: &Option<ClassName>) -> Result<(), AllocError>
-    ensures { OnOk result (string_bytes text.new ≡ string_bytes text.old ++ class_text class.now) }
-{
-    let is_plain = is_plain_class(class);
-    push_quote(text, is_plain)?;
-    push_named(alloc, text, class)?;
-    push_quote(text, is_plain)
-}
 
 // ---- an exception
 
@@ -188,6 +49,9 @@ pub(crate) fn tells_arguments(rule: &Rule) -> bool
         Rule::Import { .. } => false,
         Rule::Syntax { .. } => false,
         Rule::Group { .. } => false,
+        Rule::Encode { encoding, invalid } => !is_known(coded_shown(encoding, invalid)),
+        Rule::Decode { encoding, invalid } => !is_known(coded_shown(encoding, invalid)),
+        Rule::Translate { invalid } => !is_known(data_shown(invalid)),
     }
 }
 
@@ -206,7 +70,8 @@ fn push_by_arguments(
     said: &Said,
     members: &Members,
 ) -> Result<(), AllocError>
-    ensures { OnOk result (string_bytes text.new ≡ string_bytes text.old ++ by_arguments said.now (members_of members.now)) }
+    ensures { OnOk result (string_bytes text.new
+        ≡ string_bytes text.old ++ by_arguments said.now (members_of members.now)) }
 {
     push_arguments_lead(text)?;
     push_message(alloc, text, false, said, members)
@@ -233,7 +98,8 @@ fn push_says(
     said: &Said,
     members: &Members,
 ) -> Result<(), AllocError>
-    ensures { OnOk result (string_bytes text.new ≡ string_bytes text.old ++ says_text said.now (members_of members.now)) }
+    ensures { OnOk result (string_bytes text.new
+        ≡ string_bytes text.old ++ says_text said.now (members_of members.now)) }
 {
     if tells_arguments(&said.rule) {
         return push_by_arguments(alloc, text, said, members);

@@ -2,33 +2,28 @@
 ghost use Rattle.std.specs.Prelude.{◌≡◌, ◌++◌, IfOk, OnOk, map, slice_get, string_bytes};
 ghost use Rattle.serde_json.specs.View.{members_view, view};
 ghost use Rattle.thread_exceptions.specs.Groups.{members_of};
-ghost use Rattle.exception_texts.specs.Trees.{own_frames_tree, told_object, met_object, address_text, address_tree, addresses_tree};
-ghost use Rattle.exception_texts.specs.Trees.{all_reprs_tree, all_strs_tree, arguments_tree, class_tree, end_at};
-ghost use Rattle.exception_texts.specs.Trees.{end_tree, entries_list, entry_tree, exception_tree, fault_tree};
-ghost use Rattle.exception_texts.specs.Trees.{first_members, frame_tree, frames_tree, group_tree};
-ghost use Rattle.exception_texts.specs.Trees.{item_tree, items_tree, link_tree, listed_tree, lost_tree};
-ghost use Rattle.exception_texts.specs.Trees.{members_tree, message_tree, named_tree, next_members, no_values_tree};
-ghost use Rattle.exception_texts.specs.Trees.{notes_tree, numbered_tree, object_tree, objects_tree, own_class_tree};
-ghost use Rattle.exception_texts.specs.Trees.{own_parts_tree, parts_tree, raised_tree, repr_tree, reprs_tree};
-ghost use Rattle.exception_texts.specs.Trees.{rule_tree, running_tree, str_tree, strs_tree, text_tree, thread_tree};
-ghost use Rattle.exception_texts.specs.Trees.{threads_tree, told_tree, unreadable_tree, word_tree};
+ghost use Rattle.exception_texts.specs.Trees.{own_frames_tree, told_object, met_object, address_text, address_tree};
+ghost use Rattle.exception_texts.specs.Trees.{addresses_tree, all_reprs_tree, all_strs_tree, arguments_tree};
+ghost use Rattle.exception_texts.specs.Trees.{class_tree, end_at, end_tree, entries_list, entry_tree, exception_tree};
+ghost use Rattle.exception_texts.specs.Trees.{first_members, frame_tree, frames_tree, group_tree, link_tree};
+ghost use Rattle.exception_texts.specs.Trees.{listed_tree, lost_tree, members_tree, message_tree, next_members};
+ghost use Rattle.exception_texts.specs.Trees.{no_values_tree, notes_tree, numbered_tree, object_tree, objects_tree};
+ghost use Rattle.exception_texts.specs.Trees.{own_class_tree, repr_tree, reprs_tree, rule_tree, str_tree, strs_tree};
+ghost use Rattle.exception_texts.specs.Trees.{text_tree, told_tree, unreadable_tree, word_tree};
 
+use crate::class::{push_known_class, push_named};
 use crate::frames::shown_line;
 use crate::known::knows;
 use crate::said::push_message;
-use crate::text::{push_known_class, push_named};
-use crate::told::ThreadTold;
 use crate::values::{push_repr, push_str_of};
 use elf64_core::Text;
 use py_exceptions::{
-    CalledFrame, ClassName, Entry, Notes, RaisedParts, Rule, Said, ToldException, ToldThread,
-    Traceback, Value as Field, Values,
+    CalledFrame, ClassName, Entry, Notes, Rule, Said, ToldException, ToldThread, Traceback,
+    Value as Field, Values,
 };
 use serde_json::{Map, Value, json, put};
 use std::alloc::{AllocError, Global};
-use thread_exceptions::{
-    Handled, LinkEnd, Lost, Members, Met, Owner, Parts, Raised, Value as Named, What,
-};
+use thread_exceptions::{LinkEnd, Lost, Members, Met, Parts, What};
 
 // ---- addresses, texts and ends
 
@@ -40,7 +35,7 @@ pub(crate) fn address_text(alloc: Global, address: u64) -> Result<String, AllocE
 }
 
 /// The same as a value.
-fn address_value(alloc: Global, address: u64) -> Result<Value, AllocError>
+pub(crate) fn address_value(alloc: Global, address: u64) -> Result<Value, AllocError>
     ensures { IfOk result (λ value. view value ≡ address_tree address) }
 {
     let text = address_text(alloc, address)?;
@@ -48,7 +43,7 @@ fn address_value(alloc: Global, address: u64) -> Result<Value, AllocError>
 }
 
 /// An address, or null where it is 0.
-fn link_value(alloc: Global, address: u64) -> Result<Value, AllocError>
+pub(crate) fn link_value(alloc: Global, address: u64) -> Result<Value, AllocError>
     ensures { IfOk result (λ value. view value ≡ link_tree address) }
 {
     if address == 0 {
@@ -75,7 +70,7 @@ fn word_value(alloc: Global, word: &str) -> Result<Value, AllocError>
 }
 
 /// A range that is not in memory.
-fn lost_value(alloc: Global, lost: Lost) -> Result<Value, AllocError>
+pub(crate) fn lost_value(alloc: Global, lost: Lost) -> Result<Value, AllocError>
     ensures { IfOk result (λ value. view value ≡ lost_tree lost) }
 {
     let (addr, len) = (lost.addr, lost.len);
@@ -88,7 +83,7 @@ fn lost_value(alloc: Global, lost: Lost) -> Result<Value, AllocError>
 }
 
 /// An end at an address.
-fn end_at(alloc: Global, kind: &str, address: u64) -> Result<Value, AllocError>
+pub(crate) fn end_at(alloc: Global, kind: &str, address: u64) -> Result<Value, AllocError>
     ensures { IfOk result (λ value. view value ≡ end_at kind.now address) }
 {
     let address = address_text(alloc, address)?;
@@ -99,7 +94,7 @@ fn end_at(alloc: Global, kind: &str, address: u64) -> Result<Value, AllocError>
 }
 
 /// How a chain breaks off, or null where it is whole.
-fn end_value(alloc: Global, end: LinkEnd) -> Result<Value, AllocError>
+pub(crate) fn end_value(alloc: Global, end: LinkEnd) -> Result<Value, AllocError>
     ensures { IfOk result (λ value. view value ≡ end_tree end) }
 {
     match end {
@@ -120,7 +115,7 @@ fn own_class_value(alloc: Global, class: &ClassName) -> Result<Value, AllocError
 }
 
 /// The name of a class.
-fn class_value(alloc: Global, class: &Option<ClassName>) -> Result<Value, AllocError>
+pub(crate) fn class_value(alloc: Global, class: &Option<ClassName>) -> Result<Value, AllocError>
     ensures { IfOk result (λ value. view value ≡ class_tree class.now) }
 {
     let mut text = String::new(alloc);
@@ -131,7 +126,7 @@ fn class_value(alloc: Global, class: &Option<ClassName>) -> Result<Value, AllocE
 // ---- values
 
 /// A value as code has it.
-fn repr_value(alloc: Global, value: &Option<Field>) -> Result<Value, AllocError>
+pub(crate) fn repr_value(alloc: Global, value: &Option<Field>) -> Result<Value, AllocError>
     ensures { IfOk result (λ own. view own ≡ repr_tree value.now) }
 {
     let mut text = String::new(alloc);
@@ -247,6 +242,9 @@ fn rule_value(alloc: Global, rule: &Rule) -> Result<Value, AllocError>
         Rule::Import { .. } => word_value(alloc, "ImportError"),
         Rule::Syntax { .. } => word_value(alloc, "SyntaxError"),
         Rule::Group { .. } => word_value(alloc, "BaseExceptionGroup"),
+        Rule::Encode { .. } => word_value(alloc, "UnicodeEncodeError"),
+        Rule::Decode { .. } => word_value(alloc, "UnicodeDecodeError"),
+        Rule::Translate { .. } => word_value(alloc, "UnicodeTranslateError"),
         Rule::Own { class } => own_class_value(alloc, class),
         Rule::Unreadable => Ok(Value::Null),
     }
@@ -298,7 +296,10 @@ fn frames_value(alloc: Global, trace: &Traceback) -> Result<Value, AllocError>
 }
 
 /// The frames of a traceback, or null where it can't be read.
-fn own_frames_value(alloc: Global, trace: &Option<Traceback>) -> Result<Value, AllocError>
+pub(crate) fn own_frames_value(
+    alloc: Global,
+    trace: &Option<Traceback>,
+) -> Result<Value, AllocError>
     ensures { IfOk result (λ own. view own ≡ own_frames_tree trace.now) }
 {
     match trace {
@@ -501,139 +502,6 @@ pub(crate) fn objects_value(alloc: Global, told: &ToldThread) -> Result<Value, A
     let mut own = Vec::new(alloc);
     for number in 0..told.thread.met.len() {
         own.push(numbered_value(alloc, told, number)?)?;
-    }
-    Ok(Value::Array(own))
-}
-
-// ---- threads
-
-/// What is raised by its type and what it is made of.
-fn parts_value(alloc: Global, value: u64, parts: &RaisedParts) -> Result<Value, AllocError>
-    ensures { IfOk result (λ own. view own ≡ parts_tree value parts.now) }
-{
-    let address = link_value(alloc, value)?;
-    let frames = own_frames_value(alloc, &parts.traceback)?;
-    let class = class_value(alloc, &parts.class)?;
-    let made_of = repr_value(alloc, &parts.value)?;
-    json!(in alloc; {
-        "address": address,
-        "frames": frames,
-        "kind": "parts",
-        "type": class,
-        "value": made_of
-    })
-}
-
-/// The same, where it is told.
-fn own_parts_value(
-    alloc: Global,
-    value: u64,
-    parts: &Option<RaisedParts>,
-) -> Result<Value, AllocError>
-    ensures { IfOk result (λ own. view own ≡ own_parts_tree value parts.now) }
-{
-    match parts {
-        Some(parts) => parts_value(alloc, value, parts),
-        None => end_at(alloc, "parts", value),
-    }
-}
-
-/// What is raised, or null.
-fn raised_value(
-    alloc: Global,
-    raised: Raised,
-    parts: &Option<RaisedParts>,
-) -> Result<Value, AllocError>
-    ensures { IfOk result (λ own. view own ≡ raised_tree raised parts.now) }
-{
-    match raised {
-        Raised::Nothing => Ok(Value::Null),
-        Raised::Exception { addr } => end_at(alloc, "exception", addr),
-        Raised::Parts { value, .. } => own_parts_value(alloc, value, parts),
-        Raised::Unreadable(lost) => lost_value(alloc, lost),
-    }
-}
-
-/// Whose an item is: what runs, or null where it is the thread's own.
-fn owner_of_item(alloc: Global, owner: Owner) -> Result<Value, AllocError>
-    ensures { IfOk result (λ own. view own ≡ running_tree owner) }
-{
-    match owner {
-        Owner::Thread => Ok(Value::Null),
-        Owner::Running { addr } => address_value(alloc, addr),
-    }
-}
-
-/// The address that an item names, or null.
-fn named_value(alloc: Global, value: Named) -> Result<Value, AllocError>
-    ensures { IfOk result (λ own. view own ≡ named_tree value) }
-{
-    match value {
-        Named::At(addr) => link_value(alloc, addr),
-        Named::Unreadable(_) => Ok(Value::Null),
-    }
-}
-
-/// Why it is not known what an item names, or null.
-fn fault_value(alloc: Global, value: Named) -> Result<Value, AllocError>
-    ensures { IfOk result (λ own. view own ≡ fault_tree value) }
-{
-    match value {
-        Named::At(_) => Ok(Value::Null),
-        Named::Unreadable(lost) => lost_value(alloc, lost),
-    }
-}
-
-/// An item.
-fn item_value(alloc: Global, item: &Handled) -> Result<Value, AllocError>
-    ensures { IfOk result (λ own. view own ≡ item_tree item.now) }
-{
-    let address = named_value(alloc, item.value)?;
-    let fault = fault_value(alloc, item.value)?;
-    let running = owner_of_item(alloc, item.owner)?;
-    json!(in alloc; {
-        "address": address,
-        "fault": fault,
-        "running": running
-    })
-}
-
-/// The items, the newest one first.
-fn items_value(alloc: Global, items: &[Handled]) -> Result<Value, AllocError>
-    ensures { IfOk result (λ own. view own ≡ items_tree items.now) }
-{
-    let mut own = Vec::new(alloc);
-    for item in items {
-        own.push(item_value(alloc, item)?)?;
-    }
-    Ok(Value::Array(own))
-}
-
-/// A thread.
-fn thread_value(alloc: Global, thread: &ThreadTold) -> Result<Value, AllocError>
-    ensures { IfOk result (λ own. view own ≡ thread_tree thread.now) }
-{
-    let told = &thread.told;
-    let end = end_value(alloc, told.thread.end)?;
-    let objects = objects_value(alloc, told)?;
-    let items = items_value(alloc, &told.thread.handled)?;
-    let raised = raised_value(alloc, told.thread.raised, &told.raised)?;
-    json!(in alloc; {
-        "end": end,
-        "exceptions": objects,
-        "handled": items,
-        "raised": raised,
-        "thread_id": thread.thread_id
-    })
-}
-
-/// Threads, in order.
-pub(crate) fn threads_value(alloc: Global, threads: &[ThreadTold]) -> Result<Value, AllocError>
-    ensures { IfOk result (λ own. view own ≡ threads_tree threads.now) }
-{
-    let mut own = Vec::new(alloc);
-    for thread in threads {
-        own.push(thread_value(alloc, thread)?)?;
     }
     Ok(Value::Array(own))
 }

@@ -1,6 +1,7 @@
 //! Values that an exception has, within a line.
 ghost use Rattle.std.specs.Prelude.{◌≡◌, ◌++◌, OnOk, string_bytes};
-ghost use Rattle.exception_texts.specs.Values.{at_text, class_text, name_text, own_name_text, plain_text, quoted_text};
+ghost use Rattle.exception_texts.specs.Values.{arguments_text, at_text, class_text, name_text, own_name_text};
+ghost use Rattle.exception_texts.specs.Values.{plain_text, quoted_text};
 ghost use Rattle.exception_texts.specs.Values.{repr_text, rest_text, str_text, truth_text, tuple_text, values_text};
 ghost use Rattle.exception_texts.specs.Values.{known_repr, known_str, left_out_text, long_text, next_text};
 
@@ -248,4 +249,19 @@ pub(crate) fn push_tuple(
     push_values(alloc, text, is_raw, &values.values)?;
     push_left_out(text, values.left_out)?;
     text.push_str(")")
+}
+
+/// The arguments in parentheses, or a question mark where they can't be read.
+pub(crate) fn push_arguments(
+    alloc: Global,
+    text: &mut String,
+    is_raw: bool,
+    arguments: &Option<Values>,
+) -> Result<(), AllocError>
+    ensures { OnOk result (string_bytes text.new ≡ string_bytes text.old ++ arguments_text is_raw arguments.now) }
+{
+    match arguments {
+        Some(values) => push_tuple(alloc, text, is_raw, values),
+        None => text.push_str("?"),
+    }
 }

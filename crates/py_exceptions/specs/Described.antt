@@ -9,6 +9,7 @@ use Rattle.py_records.specs.declared.exceptions.ImportErrorRecord.{ImportErrorRe
 use Rattle.py_records.specs.declared.exceptions.OsErrorRecord.{OsErrorRecord}
 use Rattle.py_records.specs.declared.exceptions.RaisedPartsRecord.{RaisedPartsRecord}
 use Rattle.py_records.specs.declared.exceptions.SyntaxErrorRecord.{SyntaxErrorRecord}
+use Rattle.py_records.specs.declared.exceptions.UnicodeErrorRecord.{UnicodeErrorRecord}
 use Rattle.py_records.specs.declared.frames.FrameObjectRecord.{FrameObjectRecord}
 use Rattle.py_records.specs.declared.frames.TracebackRecord.{TracebackRecord}
 use Rattle.py_records.specs.declared.records.Records.{Records}
@@ -52,19 +53,20 @@ raised_traceback_of (Some at) = Some at.traceback
 
 -- fields of some classes' own
 abbrev pub fields_by : Option OsErrorRecord → Option ImportErrorRecord → Option SyntaxErrorRecord
-    → Option ExceptionGroupRecord → Option FieldPlaces
-fields_by None imports syntaxes group = None
-fields_by (Some system) None syntaxes group = None
-fields_by (Some system) (Some imports) None group = None
-fields_by (Some system) (Some imports) (Some syntaxes) group = Some (record {
+    → Option ExceptionGroupRecord → Option UnicodeErrorRecord → Option FieldPlaces
+fields_by None imports syntaxes group unicode = None
+fields_by (Some system) None syntaxes group unicode = None
+fields_by (Some system) (Some imports) None group unicode = None
+fields_by (Some system) (Some imports) (Some syntaxes) group unicode = Some (record {
   system = system;
   «import» = imports;
   «syntax» = syntaxes;
   group = group;
+  unicode = unicode;
 })
 
 abbrev pub fields_of : ExceptionRecords → Option FieldPlaces
-fields_of r = fields_by r.os_error r.import_error r.syntax_error r.exception_group
+fields_of r = fields_by r.os_error r.import_error r.syntax_error r.exception_group r.unicode_error
 
 abbrev pub described_by : Layout → Records → Places → Option KlassRecord → Option HeapTypeRecord
     → Option TracebackRecord → Option FieldPlaces → Option Described

@@ -14,6 +14,8 @@ pub mod Sound
 pub mod Texts
 pub mod Threads
 pub mod Tracebacks
+pub mod Unicode
+pub mod Units
 pub mod ValueLists
 pub mod Values
 pub mod Described

@@ -1,6 +1,7 @@
 -- By which rule an exception is told as a text: the functions `BaseException_str`, `KeyError_str`, `OSError_str`,
--- `ImportError_str`, `SyntaxError_str` and `BaseExceptionGroup_str` of Objects/exceptions.c, told by the name of the
--- class of C's that owns the function. Any other one is a class's own.
+-- `ImportError_str`, `SyntaxError_str`, `BaseExceptionGroup_str`, `UnicodeEncodeError_str`, `UnicodeDecodeError_str`
+-- and `UnicodeTranslateError_str` of Objects/exceptions.c, told by the name of the class of C's that owns the function.
+-- Any other one is a class's own.
 use Rattle.std.specs.Prelude.{ℕ, Option, Some, None, List, if◌then◌else◌, bytes_eq, codes, encode_utf8_all}
 use Rattle.process_memory.specs.Memory.{Memory}
 use Rattle.py_fields.specs.declared.layout.Layout.{Layout}
@@ -8,6 +9,7 @@ use Rattle.py_records.specs.declared.exceptions.ExceptionGroupRecord.{ExceptionG
 use Rattle.py_records.specs.declared.exceptions.ImportErrorRecord.{ImportErrorRecord}
 use Rattle.py_records.specs.declared.exceptions.OsErrorRecord.{OsErrorRecord}
 use Rattle.py_records.specs.declared.exceptions.SyntaxErrorRecord.{SyntaxErrorRecord}
+use Rattle.py_records.specs.declared.exceptions.UnicodeErrorRecord.{UnicodeErrorRecord}
 use Rattle.py_exceptions.specs.declared.name.ClassName.{ClassName}
 use Rattle.py_exceptions.specs.declared.name.ClassName.TheVariants.{Whole, Parts}
 use Rattle.py_exceptions.specs.declared.name.ClassPlaces.{ClassPlaces}
@@ -16,8 +18,10 @@ use Rattle.py_exceptions.specs.declared.rule.Kind.{Kind}
 use Rattle.py_exceptions.specs.declared.rule.Kind.TheVariants as kind
 use Rattle.py_exceptions.specs.declared.rule.Rule.{Rule}
 use Rattle.py_exceptions.specs.declared.rule.Rule.TheVariants as rule
+use Rattle.py_exceptions.specs.declared.unit.Units.TheVariants.{Bytes, Characters}
 use Rattle.py_exceptions.specs.ClassNames.{class_at}
 use Rattle.py_exceptions.specs.Owners.{owner_at}
+use Rattle.py_exceptions.specs.Unicode.{invalid_at}
 use Rattle.py_exceptions.specs.Values.{field_at}
 
 -- the rule that a class of C's of a name owns
@@ -29,6 +33,9 @@ kind_named name =
     else if bytes_eq (encode_utf8_all name) (codes "ImportError") then kind.Import
     else if bytes_eq (encode_utf8_all name) (codes "SyntaxError") then kind.Syntax
     else if bytes_eq (encode_utf8_all name) (codes "BaseExceptionGroup") then kind.Group
+    else if bytes_eq (encode_utf8_all name) (codes "UnicodeEncodeError") then kind.Encode
+    else if bytes_eq (encode_utf8_all name) (codes "UnicodeDecodeError") then kind.Decode
+    else if bytes_eq (encode_utf8_all name) (codes "UnicodeTranslateError") then kind.Translate
     else kind.Own
 
 abbrev pub kind_of : ClassName → Kind
@@ -50,6 +57,18 @@ unfoldable pub group_at : Layout → Option ExceptionGroupRecord → Memory → 
 group_at l None m class at = rule.Own class
 group_at l (Some p) m class at = rule.Group (field_at l m at p.msg)
 
+unfoldable pub encode_at : Layout → Option UnicodeErrorRecord → Memory → ClassName → ℕ → Rule
+encode_at l None m class at = rule.Own class
+encode_at l (Some p) m class at = rule.Encode (field_at l m at p.encoding) (invalid_at l p m Characters at)
+
+unfoldable pub decode_at : Layout → Option UnicodeErrorRecord → Memory → ClassName → ℕ → Rule
+decode_at l None m class at = rule.Own class
+decode_at l (Some p) m class at = rule.Decode (field_at l m at p.encoding) (invalid_at l p m Bytes at)
+
+unfoldable pub translate_at : Layout → Option UnicodeErrorRecord → Memory → ClassName → ℕ → Rule
+translate_at l None m class at = rule.Own class
+translate_at l (Some p) m class at = rule.Translate (invalid_at l p m Characters at)
+
 -- what the exception at an address tells by a rule, of which the class of this name is the owner
 abbrev pub rule_by_kind : Layout → FieldPlaces → Memory → ClassName → ℕ → Kind → Rule
 rule_by_kind l p m class at kind.Plain = rule.Plain
@@ -58,6 +77,9 @@ rule_by_kind l p m class at kind.System = system_at l p.system m at
 rule_by_kind l p m class at kind.Import = import_at l p.«import» m at
 rule_by_kind l p m class at kind.Syntax = syntax_at l p.«syntax» m at
 rule_by_kind l p m class at kind.Group = group_at l p.group m class at
+rule_by_kind l p m class at kind.Encode = encode_at l p.unicode m class at
+rule_by_kind l p m class at kind.Decode = decode_at l p.unicode m class at
+rule_by_kind l p m class at kind.Translate = translate_at l p.unicode m class at
 rule_by_kind l p m class at kind.Own = rule.Own class
 
 abbrev pub rule_by_class : Layout → FieldPlaces → Memory → ℕ → Option ClassName → Rule

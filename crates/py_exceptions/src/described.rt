@@ -87,6 +87,7 @@ fn fields_of(records: &ExceptionRecords) -> Option<FieldPlaces>
         import,
         syntax,
         group: records.exception_group,
+        unicode: records.unicode_error,
     })
 }
 
@@ -140,7 +141,8 @@ fn sound_with(layout: &Layout, records: &Records, thread: &Places) -> Option<Des
 /// is not described, or what is read of a record would not lie inside it.
 ///
 /// The groups are those of `thread_exceptions::places_of`, and `heap_type`, `traceback`, `os_error`, `import_error` and
-/// `syntax_error`; from 3.11 on `frame_object`, and with `exception_group` what groups say is told.
+/// `syntax_error`; from 3.11 on `frame_object`. With `exception_group` what groups say is told, and with
+/// `unicode_error` what the errors of Unicode's say.
 pub fn places_of(layout: &Layout, records: &Records) -> Option<Described>
     ensures are { AreDescribed layout.now records.now result }
     ensures sound { IfSome result IsDescribed }

@@ -17,6 +17,8 @@ mod rule;
 mod said;
 mod thread;
 mod traceback;
+mod unicode;
+mod unit;
 mod value;
 mod values;
 
@@ -31,5 +33,7 @@ pub use said::Said;
 pub use thread::{RaisedParts, ToldThread, read_exceptions};
 pub use thread_exceptions::ExceptionsError;
 pub use traceback::Traceback;
+pub use unicode::InvalidData;
+pub use unit::Unit;
 pub use value::Value;
 pub use values::Values;

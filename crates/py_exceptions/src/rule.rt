@@ -2,16 +2,21 @@
 ghost use Rattle.std.specs.Prelude.{◌≡◌, IfOk, Some};
 ghost use Rattle.process_memory.specs.Seen.{Reading};
 ghost use Rattle.py_fields.specs.Sound.{IsSound};
-ghost use Rattle.py_exceptions.specs.Rules.{group_at, import_at, kind_named, kind_of, rule_at, rule_by_class};
-ghost use Rattle.py_exceptions.specs.Rules.{rule_by_kind, rule_by_owner, syntax_at, system_at};
+ghost use Rattle.py_exceptions.specs.Rules.{decode_at, encode_at, group_at, import_at, kind_named, kind_of, rule_at};
+ghost use Rattle.py_exceptions.specs.Rules.{rule_by_class, rule_by_kind, rule_by_owner, syntax_at, system_at};
+ghost use Rattle.py_exceptions.specs.Rules.{translate_at};
 
 use crate::name::{ClassName, ClassPlaces, read_class};
 use crate::owner::read_owner;
+use crate::unicode::{InvalidData, read_invalid};
+use crate::unit::Units;
 use crate::value::{Value, read_field};
 use elf64_core::Text;
 use process_memory::ProcessMemory;
 use py_fields::Layout;
-use py_records::{ExceptionGroupRecord, ImportErrorRecord, OsErrorRecord, SyntaxErrorRecord};
+use py_records::{
+    ExceptionGroupRecord, ImportErrorRecord, OsErrorRecord, SyntaxErrorRecord, UnicodeErrorRecord,
+};
 use std::alloc::Global;
 use thread_exceptions::ExceptionsError;
 
@@ -47,6 +52,20 @@ pub enum Rule {
     Group {
         text: Option<Value>,
     },
+    /// `UnicodeEncodeError`'s: which characters the coding of this name has no bytes for.
+    Encode {
+        encoding: Option<Value>,
+        invalid: InvalidData,
+    },
+    /// `UnicodeDecodeError`'s: which bytes are no characters in the coding of this name.
+    Decode {
+        encoding: Option<Value>,
+        invalid: InvalidData,
+    },
+    /// `UnicodeTranslateError`'s: which characters can't be translated.
+    Translate {
+        invalid: InvalidData,
+    },
     /// Another one, of the class of this name: a `__str__` of a program's own, or one of C that is not told here. The
     /// arguments are shown in place of the text, said to be these.
     Own {
@@ -64,6 +83,8 @@ pub struct FieldPlaces {
     pub syntax: SyntaxErrorRecord,
     /// None where the version has no groups.
     pub group: Option<ExceptionGroupRecord>,
+    /// None where the records don't describe these.
+    pub unicode: Option<UnicodeErrorRecord>,
 }
 
 /// A rule that is told here, or another one.
@@ -75,6 +96,9 @@ enum Kind {
     Import,
     Syntax,
     Group,
+    Encode,
+    Decode,
+    Translate,
     Own,
 }
 
@@ -100,6 +124,15 @@ fn kind_named(name: &Text) -> Kind
     }
     if name.as_str() == "BaseExceptionGroup" {
         return Kind::Group;
+    }
+    if name.as_str() == "UnicodeEncodeError" {
+        return Kind::Encode;
+    }
+    if name.as_str() == "UnicodeDecodeError" {
+        return Kind::Decode;
+    }
+    if name.as_str() == "UnicodeTranslateError" {
+        return Kind::Translate;
     }
     Kind::Own
 }
@@ -194,6 +227,74 @@ fn read_group<P: ProcessMemory>(
     }
 }
 
+/// What a `UnicodeEncodeError` tells, where it is described. At most 19 reads.
+fn read_encode<P: ProcessMemory>(
+    alloc: Global,
+    process: &mut P,
+    layout: &Layout,
+    places: Option<UnicodeErrorRecord>,
+    class: ClassName,
+    at: u64,
+) -> Result<Rule, ExceptionsError>
+    requires sound { IsSound layout.now }
+    ensures { Reading 19 (P.seen process.old) (P.seen process.new)
+        (λ m. IfOk result (λ rule. rule ≡ encode_at layout.now places m class at)) }
+{
+    match places {
+        None => Ok(Rule::Own { class }),
+        Some(places) => {
+            let encoding = read_field(alloc, process, layout, at, places.encoding)?;
+            let invalid = read_invalid(alloc, process, layout, &places, Units::Characters, at)?;
+            Ok(Rule::Encode { encoding, invalid })
+        }
+    }
+}
+
+/// What a `UnicodeDecodeError` tells, where it is described. At most 19 reads.
+fn read_decode<P: ProcessMemory>(
+    alloc: Global,
+    process: &mut P,
+    layout: &Layout,
+    places: Option<UnicodeErrorRecord>,
+    class: ClassName,
+    at: u64,
+) -> Result<Rule, ExceptionsError>
+    requires sound { IsSound layout.now }
+    ensures { Reading 19 (P.seen process.old) (P.seen process.new)
+        (λ m. IfOk result (λ rule. rule ≡ decode_at layout.now places m class at)) }
+{
+    match places {
+        None => Ok(Rule::Own { class }),
+        Some(places) => {
+            let encoding = read_field(alloc, process, layout, at, places.encoding)?;
+            let invalid = read_invalid(alloc, process, layout, &places, Units::Bytes, at)?;
+            Ok(Rule::Decode { encoding, invalid })
+        }
+    }
+}
+
+/// What a `UnicodeTranslateError` tells, where it is described. At most 13 reads.
+fn read_translate<P: ProcessMemory>(
+    alloc: Global,
+    process: &mut P,
+    layout: &Layout,
+    places: Option<UnicodeErrorRecord>,
+    class: ClassName,
+    at: u64,
+) -> Result<Rule, ExceptionsError>
+    requires sound { IsSound layout.now }
+    ensures { Reading 13 (P.seen process.old) (P.seen process.new)
+        (λ m. IfOk result (λ rule. rule ≡ translate_at layout.now places m class at)) }
+{
+    match places {
+        None => Ok(Rule::Own { class }),
+        Some(places) => {
+            let invalid = read_invalid(alloc, process, layout, &places, Units::Characters, at)?;
+            Ok(Rule::Translate { invalid })
+        }
+    }
+}
+
 /// What an exception tells by a rule. At most 24 reads.
 fn read_by_kind<P: ProcessMemory>(
     alloc: Global,
@@ -215,6 +316,9 @@ fn read_by_kind<P: ProcessMemory>(
         Kind::Import => read_import(alloc, process, layout, &places.import, at),
         Kind::Syntax => read_syntax(alloc, process, layout, &places.syntax, at),
         Kind::Group => read_group(alloc, process, layout, places.group, class, at),
+        Kind::Encode => read_encode(alloc, process, layout, places.unicode, class, at),
+        Kind::Decode => read_decode(alloc, process, layout, places.unicode, class, at),
+        Kind::Translate => read_translate(alloc, process, layout, places.unicode, class, at),
         Kind::Own => Ok(Rule::Own { class }),
     }
 }

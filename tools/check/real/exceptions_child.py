@@ -537,17 +537,74 @@ def encodes_one():
         end([caught])
 
 
-def decodes():
-    """What can't be decoded."""
+def decodes_one():
+    """What can't be decoded: one byte."""
     try:
         b"ab\xffc".decode("utf-8")
     except UnicodeError as caught:
         end([caught])
 
 
-def translates():
-    """What can't be translated."""
+def decodes():
+    """What can't be decoded: several bytes."""
+    try:
+        b"ab\xe6\x97".decode("utf-8")
+    except UnicodeError as caught:
+        end([caught])
+
+
+def translates_one():
+    """What can't be translated: one character."""
     dies_of(UnicodeTranslateError("a\u65e5b", 1, 2, "no such character"))
+
+
+def translates():
+    """What can't be translated: several characters."""
+    dies_of(UnicodeTranslateError("a\u65e5\u65e5b", 1, 3, "no such characters"))
+
+
+def failed(codes, value, coding):
+    """What a coding fails with."""
+    try:
+        codes(value, coding)
+    except UnicodeError as caught:
+        return caught
+
+
+def changed(error, name, value):
+    """An error of which a field is another one."""
+    setattr(error, name, value)
+    return error
+
+
+def die_of_all(errors):
+    """Dies while the last one is handled, each the cause of the next."""
+    for cause, error in zip(errors, errors[1:]):
+        error.__cause__ = cause
+    dies_of(errors[-1])
+
+
+def coded_oddly():
+    """What can't be coded: a surrogate, a character past 65535, one far behind, one of three kinds of texts, places outside."""
+    encodes, decodes = str.encode, bytes.decode
+    die_of_all([
+        failed(encodes, "ab\udc80", "utf-8"), failed(encodes, "a\U0001f600", "latin-1"), failed(encodes, "x" * 70000 + "\xe9", "ascii"),
+        failed(encodes, "\x80", "ascii"), failed(encodes, "\u0100\U0001f600\u0101", "latin-1"), failed(decodes, b"x" * 70000 + b"\x80", "ascii"),
+        failed(bytearray.decode, bytearray(b"ab\x00\x9f"), "ascii"), UnicodeEncodeError("a coding", "ab", 2, 3, "outside"),
+        UnicodeDecodeError("a coding", b"ab", 5, 6, "outside"), UnicodeTranslateError("", 0, 1, "nothing there"),
+        UnicodeEncodeError("a coding", "abc", -4, 2, "below"), UnicodeDecodeError("a coding", b"abc", 2, -7, "turned"),
+        UnicodeTranslateError("abc", 1, 1, "none"), UnicodeEncodeError("", "abc", 1, 2, ""), UnicodeDecodeError("a'b\n", b"\x00", 0, 1, "c\n"),
+        changed(UnicodeDecodeError("a coding", b"abc", 0, 2, "of a reason"), "reason", "of another one"),
+        changed(UnicodeEncodeError("a coding", "abc", 0, 2, "to the end"), "end", -2 ** 63), UnicodeDecodeError.__new__(UnicodeDecodeError),
+    ])
+
+
+def coded_untold():
+    """What can't be coded and isn't told: a reason that is no text, and one of another class."""
+    die_of_all([
+        changed(UnicodeDecodeError("a coding", b"abc", 0, 1, "of a number"), "reason", 5),
+        changed(UnicodeTranslateError("abc", 0, 1, "of a list"), "reason", ["a list"]),
+    ])
 
 
 def own():
@@ -696,7 +753,7 @@ ALWAYS = (
     in_except, in_finally, in_exit, in_excepthook, hook_fails, last_of_a_chain, last_by_hand, last_is_handled, last_is_none, last_in_a_large_dict,
     in_generator, in_coroutine, in_task, in_async_generator, two_generators, cause,
     context, suppressed, many_causes, cycle, key_error, own_key, two_keys, os_error, os_one, os_plain, os_text, syntax_error,
-    import_error, module_not_found, encodes, encodes_one, decodes, translates, own, own_one, inner_class, other_module, spoken,
+    import_error, module_not_found, encodes, encodes_one, decodes, decodes_one, translates, translates_one, coded_oddly, coded_untold, own, own_one, inner_class, other_module, spoken,
     no_argument, number_argument, stop_iteration, leaves, lines_in_text, forged_name, recursion, deep, nested, no_memory, none,
 )
 BY_C = (raised_value, raised_text, raised_while_handling)

@@ -38,9 +38,9 @@ FLAG = "--exceptions"
 USUAL_ONES = ("cause", "in_excepthook", "in_generator", "os_error")
 """Situations whose cores are as they are usually written, and are shown by the tool too."""
 
-BY_ARGUMENTS = {"decodes", "encodes", "encodes_one", "key_error", "number_argument", "own", "syntax_error", "translates"}
+BY_ARGUMENTS = {"coded_untold", "key_error", "number_argument", "own", "syntax_error"}
 """Situations in which the arguments are told and no text, though Python has one: it has escapes, a long number, values of other kinds or
-the last part of a path, or its class is one of Unicode's errors."""
+the last part of a path."""
 
 BROKEN = "many_causes"
 """The situation of whose core broken copies are made."""

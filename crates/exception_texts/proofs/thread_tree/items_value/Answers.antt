@@ -4,7 +4,7 @@ use Rattle.serde_json.specs.Data.{array}
 use Rattle.serde_json.specs.View.{items_of}
 use Rattle.serde_json.proofs.Views.{view-Array}
 use Rattle.exception_texts.specs.Trees.{item_tree}
-use Rattle.exception_texts.proofs.tree.items_value.Goals as goal
+use Rattle.exception_texts.proofs.thread_tree.items_value.Goals as goal
 
 pub returns : goal.returns
 returns c =

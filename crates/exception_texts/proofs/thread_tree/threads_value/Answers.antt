@@ -4,7 +4,7 @@ use Rattle.serde_json.specs.Data.{array}
 use Rattle.serde_json.specs.View.{items_of}
 use Rattle.serde_json.proofs.Views.{view-Array}
 use Rattle.exception_texts.specs.Trees.{thread_tree}
-use Rattle.exception_texts.proofs.tree.threads_value.Goals as goal
+use Rattle.exception_texts.proofs.thread_tree.threads_value.Goals as goal
 
 pub returns : goal.returns
 returns c =
