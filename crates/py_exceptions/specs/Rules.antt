@@ -57,14 +57,17 @@ unfoldable pub group_at : Layout → Option ExceptionGroupRecord → Memory → 
 group_at l None m class at = rule.Own class
 group_at l (Some p) m class at = rule.Group (field_at l m at p.msg)
 
+-- of a class of these what can't be encoded, where it is described
 unfoldable pub encode_at : Layout → Option UnicodeErrorRecord → Memory → ClassName → ℕ → Rule
 encode_at l None m class at = rule.Own class
 encode_at l (Some p) m class at = rule.Encode (field_at l m at p.encoding) (invalid_at l p m Characters at)
 
+-- the same of what can't be decoded
 unfoldable pub decode_at : Layout → Option UnicodeErrorRecord → Memory → ClassName → ℕ → Rule
 decode_at l None m class at = rule.Own class
 decode_at l (Some p) m class at = rule.Decode (field_at l m at p.encoding) (invalid_at l p m Bytes at)
 
+-- the same of what can't be translated
 unfoldable pub translate_at : Layout → Option UnicodeErrorRecord → Memory → ClassName → ℕ → Rule
 translate_at l None m class at = rule.Own class
 translate_at l (Some p) m class at = rule.Translate (invalid_at l p m Characters at)

@@ -18,10 +18,12 @@ first_by l m u None start = None
 first_by l m u (Some a) None = None
 first_by l m u (Some a) (Some n) = unit_at l m u a n
 
+-- what is told of the data, put together
 abbrev pub invalid_with : Option ℕ → Option ℕ → Option ℕ → Option Unit → Option Value → InvalidData
 invalid_with object start end first reason =
     record { object = object; start = start; end = end; first = first; reason = reason }
 
+-- the same, with what the object has at the start
 abbrev pub invalid_by : Layout → Memory → Units → Option ℕ → Option ℕ → Option ℕ → Option Value → InvalidData
 invalid_by l m u object start end reason = invalid_with object start end (first_by l m u object start) reason
 

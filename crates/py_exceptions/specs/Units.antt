@@ -36,6 +36,7 @@ abbrev pub character_by : Memory → ℕ → Option Characters → Found (Option
 character_by m n None = Ok None
 character_by m n (Some p) = coded_at m n p
 
+-- the same by the record of the text
 abbrev pub in_text : Layout → Memory → ℕ → ℕ → List ℕ → Found (Option Unit)
 in_text l m a n object =
     if nat_lt n (u64_in object l.string.length) then character_by m n (characters_of l a object)
@@ -45,9 +46,11 @@ in_text l m a n object =
 unfoldable pub character_at : Layout → Memory → ℕ → ℕ → Found (Option Unit)
 character_at l m a n = record_at m a l.string.size >>= (λ object. in_text l m a n object)
 
+-- the byte of a number behind the record of a bytes object
 unfoldable pub own_byte_at : Layout → Memory → ℕ → ℕ → Found (Option Unit)
 own_byte_at l m a n = record_at m (a + l.bytes.at + n) 1 >>= (λ bytes. Ok (Some (unit.Is (u8_in bytes 0))))
 
+-- the same, where the record says that there are so many
 abbrev pub in_bytes : Layout → Memory → ℕ → ℕ → List ℕ → Found (Option Unit)
 in_bytes l m a n object =
     if nat_lt n (u64_in object l.bytes.length) then own_byte_at l m a n else Ok (Some unit.Outside)
@@ -62,10 +65,12 @@ abbrev pub is_of : Units → ℕ → Bool
 is_of units.Characters flags = nat_eq (flags / 2 ^ 28 % 2) 1
 is_of units.Bytes flags = nat_eq (flags / 2 ^ 27 % 2) 1
 
+-- what an object of such has at a place
 abbrev pub unit_in : Layout → Memory → Units → ℕ → ℕ → Found (Option Unit)
 unit_in l m units.Characters a n = character_at l m a n
 unit_in l m units.Bytes a n = byte_of l m a n
 
+-- the same by its type
 abbrev pub if_of : Layout → Memory → Units → ℕ → ℕ → ObjectType → Found (Option Unit)
 if_of l m u a n t = if is_of u t.flags then unit_in l m u a n else Ok None
 
