@@ -35,7 +35,7 @@ name None = refl
 name (Some n) = refl
 
 class : (c : HeapClass) → has_float (class_tree c) ≡ false
-class c = λ i. false || (false || (false || (name c.name i || (false || (false || false)))))
+class c = λ i. false || (false || (false || (name c.name i || (false || (false || (false || false))))))
 
 classes : (cs : List HeapClass) → has_float (classes_tree cs) ≡ false
 classes [] = refl
@@ -51,7 +51,7 @@ owner (Some o) = refl
 
 heap : (o : Option ℕ) (h : Heap) → has_float (heap_tree (owner_tree o) h) ≡ false
 heap o h = λ i. classes (take most_classes h.classes.items) i || (collecting h.collecting i || (owner o i || (false
-    || (lists h i || (false || (false || false))))))
+    || (lists h i || (false || (false || (false || false)))))))
 
 told : (o : Option ℕ) (t : HeapTold) → has_float (told_tree o t) ≡ false
 told o (NoLists head) = λ i. owner o i || (false || false)

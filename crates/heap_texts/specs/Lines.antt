@@ -18,6 +18,11 @@ abbrev pub counts_text : Heap → List ℕ
 counts_text h = decimal h.youngest.objects ++ (codes ", " ++ (decimal h.middle.objects ++ (codes ", "
     ++ (decimal h.oldest.objects ++ (codes " and " ++ (decimal h.permanent.objects ++ codes " objects\n"))))))
 
+-- that the tables of sets aren't counted, where they aren't
+abbrev pub sets_line : Bool → List ℕ
+sets_line true = []
+sets_line false = codes "    tables of sets are not counted: no symbol names their classes\n"
+
 abbrev pub collecting_line : Option Bool → List ℕ
 collecting_line (Some true) = codes "    a collection runs\n"
 collecting_line (Some false) = []
@@ -35,17 +40,22 @@ list_line name (Cut a) = codes "    " ++ (name ++ (codes " has more, from 0x" ++
 abbrev pub unknown_text : ℕ → List ℕ
 unknown_text n = if n == 0 then [] else codes ", " ++ (decimal n ++ codes " of unknown size")
 
+-- of how many objects the bytes of other blocks aren't known, where there is one
+abbrev pub unread_text : ℕ → List ℕ
+unread_text n = if n == 0 then [] else codes ", " ++ (decimal n ++ codes " of unknown other blocks")
+
 abbrev pub size_text : (objects bytes : ℕ) → List ℕ
 size_text objects bytes = codes "    " ++ (decimal objects ++ (codes " objects, " ++ (decimal bytes ++ codes " bytes")))
 
--- how many bytes lists and dicts have in blocks beside their own, where there are any
+-- how many bytes lists, dicts and sets have in blocks beside their own, where there are any
 abbrev pub more_text : ℕ → List ℕ
 more_text n = if n == 0 then [] else codes " and " ++ (decimal n ++ codes " in other blocks")
 
 -- how many objects there are of a class, how many bytes, and its name, which ends the line
 abbrev pub class_line : HeapClass → List ℕ
 class_line c = size_text c.counted.objects c.counted.bytes ++ (more_text c.counted.more
-    ++ (unknown_text c.counted.unknown ++ (codes ": " ++ (named_text c.name ++ codes "\n"))))
+    ++ (unknown_text c.counted.unknown ++ (unread_text c.counted.unread
+    ++ (codes ": " ++ (named_text c.name ++ codes "\n")))))
 
 -- how many classes have no line, where there is one
 abbrev pub rest_line : (classes : ℕ) → List ℕ

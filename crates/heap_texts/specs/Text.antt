@@ -10,6 +10,7 @@ use Rattle.py_heap.specs.declared.heap.Heaps.{Heaps}
 use Rattle.py_heap.specs.declared.heap.Heaps.TheVariants.{NotDescribed, OfRuntime, OfInterpreters}
 use Rattle.py_heap.specs.declared.heap.InterpreterHeap.{InterpreterHeap}
 use Rattle.heap_texts.specs.Lines.{class_line, collecting_line, counts_text, lead_text, list_line, lost_line, rest_line}
+use Rattle.heap_texts.specs.Lines.{sets_line}
 
 -- how many classes have a line
 abbrev pub most_lines : ℕ
@@ -25,8 +26,9 @@ abbrev pub classes_text : List HeapClass → List ℕ
 classes_text classes = concat (map (λ c. class_line c) classes)
 
 abbrev pub heap_text : Heap → List ℕ
-heap_text h = counts_text h ++ (collecting_line h.collecting ++ (lists_text h ++ (lost_line h.unreadable
-    ++ (classes_text (take most_lines h.classes.items) ++ rest_line (length h.classes.items)))))
+heap_text h = counts_text h ++ (sets_line h.sets ++ (collecting_line h.collecting ++ (lists_text h
+    ++ (lost_line h.unreadable
+    ++ (classes_text (take most_lines h.classes.items) ++ rest_line (length h.classes.items))))))
 
 abbrev pub none_line : (head : ℕ) → List ℕ
 none_line head = codes "no list at 0x" ++ (digits 16 false head ++ codes "\n")

@@ -54,7 +54,8 @@ class_tree c = object (
     member (codes "more") (number (unsigned c.counted.more)) (
     member (codes "name") (name_tree c.name) (
     member (codes "objects") (number (unsigned c.counted.objects)) (
-    member (codes "unknown") (number (unsigned c.counted.unknown)) no_members))))))
+    member (codes "unknown") (number (unsigned c.counted.unknown)) (
+    member (codes "unread") (number (unsigned c.counted.unread)) no_members)))))))
 
 abbrev pub classes_tree : List HeapClass → Data
 classes_tree classes = array (items_of (map (λ c. class_tree c) classes))
@@ -75,7 +76,8 @@ heap_tree owner h = object (
     member (codes "kind") (string (codes "heap")) (
     member (codes "lists") (lists_tree h) (
     member (codes "more_classes") (number (unsigned (length h.classes.items - most_classes))) (
-    member (codes "unreadable") (number (unsigned h.unreadable)) no_members)))))))
+    member (codes "sets") (boolean h.sets) (
+    member (codes "unreadable") (number (unsigned h.unreadable)) no_members))))))))
 
 abbrev pub word_tree : Data → List ℕ → Data
 word_tree owner kind = object (

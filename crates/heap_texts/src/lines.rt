@@ -1,7 +1,7 @@
 //! The parts of the lines of a heap.
 ghost use Rattle.std.specs.Prelude.{◌≡◌, ◌++◌, OnOk, string_bytes};
 ghost use Rattle.heap_texts.specs.Lines.{class_line, collecting_line, counts_text, lead_text, list_line, size_text};
-ghost use Rattle.heap_texts.specs.Lines.{lost_line, more_text, rest_line, unknown_text};
+ghost use Rattle.heap_texts.specs.Lines.{lost_line, more_text, rest_line, sets_line, unknown_text, unread_text};
 
 use exception_texts::push_named;
 use gc_lists::ListEnd;
@@ -30,6 +30,16 @@ pub(crate) fn push_counts(text: &mut String, heap: &Heap) -> Result<(), AllocErr
         text,
         "{youngest}, {middle}, {oldest} and {permanent} objects\n"
     )
+}
+
+/// That the tables of sets are not counted, where they aren't.
+pub(crate) fn push_sets(text: &mut String, sets: bool) -> Result<(), AllocError>
+    ensures { OnOk result (string_bytes text.new ≡ string_bytes text.old ++ sets_line sets) }
+{
+    if sets {
+        return Ok(());
+    }
+    text.push_str("    tables of sets are not counted: no symbol names their classes\n")
 }
 
 /// Whether a collection runs, where it does.
@@ -68,7 +78,17 @@ fn push_unknown(text: &mut String, unknown: u64) -> Result<(), AllocError>
     write!(text, ", {unknown} of unknown size")
 }
 
-/// How many bytes lists and dicts have in blocks beside their own, where there are any.
+/// Of how many objects the bytes of other blocks are not known, where there is one.
+fn push_unread(text: &mut String, unread: u64) -> Result<(), AllocError>
+    ensures { OnOk result (string_bytes text.new ≡ string_bytes text.old ++ unread_text unread) }
+{
+    if unread == 0 {
+        return Ok(());
+    }
+    write!(text, ", {unread} of unknown other blocks")
+}
+
+/// How many bytes lists, dicts and sets have in blocks beside their own, where there are any.
 fn push_more(text: &mut String, more: u64) -> Result<(), AllocError>
     ensures { OnOk result (string_bytes text.new ≡ string_bytes text.old ++ more_text more) }
 {
@@ -96,6 +116,7 @@ pub(crate) fn push_class(
     push_size(text, class.counted.objects, class.counted.bytes)?;
     push_more(text, class.counted.more)?;
     push_unknown(text, class.counted.unknown)?;
+    push_unread(text, class.counted.unread)?;
     text.push_str(": ")?;
     push_named(alloc, text, &class.name)?;
     text.push_str("\n")

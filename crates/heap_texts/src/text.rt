@@ -5,7 +5,7 @@ ghost use Rattle.heap_texts.specs.Text.{lists_text, none_line, runtime_text, tol
 
 use crate::firsts::first_of;
 use crate::lines::{
-    push_class, push_collecting, push_counts, push_lead, push_list, push_lost, push_rest,
+    push_class, push_collecting, push_counts, push_lead, push_list, push_lost, push_rest, push_sets,
 };
 use py_heap::{Heap, HeapClass, HeapTold, Heaps, InterpreterHeap};
 use std::alloc::{AllocError, Global};
@@ -38,6 +38,7 @@ fn push_heap(alloc: Global, text: &mut String, heap: &Heap) -> Result<(), AllocE
     ensures { OnOk result (string_bytes text.new ≡ string_bytes text.old ++ heap_text heap.now) }
 {
     push_counts(text, heap)?;
+    push_sets(text, heap.sets)?;
     push_collecting(text, heap.collecting)?;
     push_lists(text, heap)?;
     push_lost(text, heap.unreadable)?;
@@ -102,7 +103,7 @@ fn push_runtime(alloc: Global, text: &mut String, told: &Option<HeapTold>) -> Re
 }
 
 /// Appends the lines of the heaps of a process: of each interpreter (up to 3.8 of the runtime) how many objects the
-/// generations and the permanent one have, whether a collection runs, how each list ends that isn't whole, of how many
+/// generations and the permanent one have, that tables of sets are not counted where they aren't, whether a collection runs, how each list ends that isn't whole, of how many
 /// objects the class can't be read, a line for each of the first 40 classes, and how many more there are; or that there
 /// is no list, or that heaps are not described. The one error is want of memory.
 pub fn push_heaps(alloc: Global, text: &mut String, heaps: &Heaps) -> Result<(), AllocError>

@@ -96,7 +96,8 @@ fn class_value(alloc: Global, class: &HeapClass) -> Result<Value, AllocError>
         "more": class.counted.more,
         "name": name,
         "objects": class.counted.objects,
-        "unknown": class.counted.unknown
+        "unknown": class.counted.unknown,
+        "unread": class.counted.unread
     })
 }
 
@@ -135,6 +136,7 @@ fn heap_value(alloc: Global, owner: Value, heap: &Heap) -> Result<Value, AllocEr
         "kind": "heap",
         "lists": lists,
         "more_classes": left,
+        "sets": heap.sets,
         "unreadable": heap.unreadable
     })
 }

@@ -1,3 +1,4 @@
+pub mod Leading
 pub mod Tallying
 pub mod Members
 pub mod Orders

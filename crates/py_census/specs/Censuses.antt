@@ -40,6 +40,7 @@ counted_by size more class objects = record {
   objects = capped (length objects);
   bytes = capped (sizes size objects);
   more = capped (sizes more objects);
+  unread = capped (unknown more objects);
   unknown = capped (unknown size objects);
 }
 

@@ -1,4 +1,5 @@
 pub mod Versions
+pub mod Bases
 pub mod Sizes
 pub mod Blocks
 pub mod Censuses

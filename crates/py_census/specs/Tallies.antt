@@ -38,11 +38,12 @@ with_object c size more = record {
   objects = capped (c.objects + 1);
   bytes = capped (c.bytes + unwrap_or size 0);
   more = capped (c.more + unwrap_or more 0);
+  unread = capped (c.unread + (if is_none more then 1 else 0));
   unknown = capped (c.unknown + (if is_none size then 1 else 0));
 }
 
 abbrev pub no_objects : (class : ℕ) → CountedClass
-no_objects class = record { class = class; objects = 0; bytes = 0; more = 0; unknown = 0 }
+no_objects class = record { class = class; objects = 0; bytes = 0; more = 0; unread = 0; unknown = 0 }
 
 -- what is kept of a class; of one that is met first, what its record says
 abbrev pub tally_or_new : (sized : Option ClassSize) → (class : ℕ) → Option Tally → Tally

@@ -19,6 +19,7 @@
 //! | 3.12, 3.13 | 16 | with a managed dict or managed weak references (bits 4 and 3) | internal/pycore_object.h |
 #![tactic(auto)]
 
+mod bases;
 mod blocks;
 mod census;
 mod places;
@@ -27,5 +28,5 @@ mod tallies;
 mod versions;
 
 pub use census::{Census, CountedClass, count_objects};
-pub use places::{KeysForm, SizePlaces, WordsBefore};
+pub use places::{KeysForm, SetClasses, SizePlaces, WordsBefore};
 pub use versions::size_places;

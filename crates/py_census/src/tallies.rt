@@ -33,6 +33,7 @@ fn no_objects(class: u64) -> CountedClass
         objects: 0,
         bytes: 0,
         more: 0,
+        unread: 0,
         unknown: 0,
     }
 }
@@ -46,6 +47,7 @@ fn with_object(counted: CountedClass, size: Option<u64>, more: Option<u64>) -> C
         objects: counted.objects.saturating_add(1),
         bytes: counted.bytes.saturating_add(size.unwrap_or(0)),
         more: counted.more.saturating_add(more.unwrap_or(0)),
+        unread: counted.unread.saturating_add(u64::from(more.is_none())),
         unknown: counted.unknown.saturating_add(u64::from(size.is_none())),
     }
 }
@@ -57,7 +59,7 @@ fn kept_of(tallies: &BTreeMap<u64, Tally>, class: u64) -> Option<Tally>
     tallies.get(&class).copied()
 }
 
-/// What is kept of a class; of one that is met first, what its record says. At most 3 reads.
+/// What is kept of a class; of one that is met first, what its record says. At most 19 reads.
 fn tally_at<P: ProcessMemory>(
     process: &mut P,
     layout: &Layout,
@@ -65,7 +67,7 @@ fn tally_at<P: ProcessMemory>(
     tallies: &BTreeMap<u64, Tally>,
     class: u64,
 ) -> Result<Tally, AllocError>
-    ensures { Reading 3 (P.seen process.old) (P.seen process.new) (λ m. IfOk result (λ tally. tally
+    ensures { Reading 19 (P.seen process.old) (P.seen process.new) (λ m. IfOk result (λ tally. tally
         ≡ tally_or_new (class_size_at layout.now places.now m class) class (get nat_cmp tallies.now class))) }
 {
     match kept_of(tallies, class) {
@@ -80,7 +82,7 @@ fn tally_at<P: ProcessMemory>(
     }
 }
 
-/// Counts one more object, whose class is given. At most 7 reads.
+/// Counts one more object, whose class is given. At most 23 reads.
 fn add_object<P: ProcessMemory>(
     process: &mut P,
     layout: &Layout,
@@ -89,7 +91,7 @@ fn add_object<P: ProcessMemory>(
     its: u64,
     object: u64,
 ) -> Result<(), AllocError>
-    ensures { Reading 7 (P.seen process.old) (P.seen process.new) (λ m. OnOk result
+    ensures { Reading 23 (P.seen process.old) (P.seen process.new) (λ m. OnOk result
         ((class : ℕ) → get nat_cmp tallies.new class
         ≡ tally_after layout.now places.now m object (Some its) (get nat_cmp tallies.old) class)) }
 {
@@ -107,7 +109,7 @@ fn add_object<P: ProcessMemory>(
     Ok(())
 }
 
-/// Counts one more object; and whether its class is not known, so that it is counted with none. At most 8 reads.
+/// Counts one more object; and whether its class is not known, so that it is counted with none. At most 24 reads.
 fn meet_object<P: ProcessMemory>(
     process: &mut P,
     layout: &Layout,
@@ -115,7 +117,7 @@ fn meet_object<P: ProcessMemory>(
     tallies: &mut BTreeMap<u64, Tally>,
     object: u64,
 ) -> Result<bool, AllocError>
-    ensures { Reading 8 (P.seen process.old) (P.seen process.new) (λ m. IfOk result
+    ensures { Reading 24 (P.seen process.old) (P.seen process.new) (λ m. IfOk result
         (IsMet layout.now places.now m object tallies.old tallies.new)) }
 {
     let its = read_class(process, layout, object)?;
@@ -128,7 +130,7 @@ fn meet_object<P: ProcessMemory>(
     }
 }
 
-/// Counts some objects by their classes; and of how many of them the class is not known. At most 8 reads of each.
+/// Counts some objects by their classes; and of how many of them the class is not known. At most 24 reads of each.
 pub(crate) fn meet_objects<P: ProcessMemory>(
     process: &mut P,
     layout: &Layout,
@@ -137,7 +139,7 @@ pub(crate) fn meet_objects<P: ProcessMemory>(
     objects: &[u64],
 ) -> Result<u64, AllocError>
     requires none { (class : ℕ) → get nat_cmp tallies.old class ≡ None }
-    ensures { Reading (8 * length objects.now) (P.seen process.old) (P.seen process.new) (λ m. IfOk result
+    ensures { Reading (24 * length objects.now) (P.seen process.old) (P.seen process.new) (λ m. IfOk result
         (AreTallied layout.now places.now m objects.now tallies.new)) }
 {
     let mut unreadable: u64 = 0;

@@ -14,4 +14,4 @@ with_name c a b h = ap (λ n. record { counted = c; name = n }) h
 
 -- what stands where no class does
 abbrev pub none_counted : CountedClass
-none_counted = record { class = 0; objects = 0; bytes = 0; more = 0; unknown = 0 }
+none_counted = record { class = 0; objects = 0; bytes = 0; more = 0; unread = 0; unknown = 0 }
