@@ -7,8 +7,8 @@ ghost use Rattle.py_census.specs.Censuses.{Counted, IsCensus, Precedes, counted_
 ghost use Rattle.py_census.specs.Blocks.{more_at};
 ghost use Rattle.py_census.specs.Sizes.{class_at, size_at};
 
-use crate::SizePlaces;
 use crate::tallies::{Tally, meet_objects};
+use crate::{Largest, SizePlaces};
 use process_memory::ProcessMemory;
 use py_fields::Layout;
 use std::alloc::{AllocError, Global};
@@ -33,6 +33,8 @@ pub struct CountedClass {
     /// Of how many of them the size is not known: what their class says of it, or their count of items, is not in
     /// memory, or it is 2^64 bytes or more.
     pub unknown: u64,
+    /// The three largest of them.
+    pub largest: Largest,
 }
 
 /// What is counted of objects.

@@ -22,11 +22,13 @@
 mod bases;
 mod blocks;
 mod census;
+mod large;
 mod places;
 mod sizes;
 mod tallies;
 mod versions;
 
 pub use census::{Census, CountedClass, count_objects};
+pub use large::{LargeObject, Largest};
 pub use places::{KeysForm, SetClasses, SizePlaces, WordsBefore};
 pub use versions::size_places;

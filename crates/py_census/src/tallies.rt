@@ -9,6 +9,7 @@ ghost use Rattle.py_census.specs.Tallies.{AreTallied, IsMet, no_objects, tally_a
 use crate::SizePlaces;
 use crate::blocks::read_more;
 use crate::census::CountedClass;
+use crate::large::{large_of, none_large, with_large};
 use crate::sizes::{ClassSize, read_class, read_class_size, read_size};
 use process_memory::ProcessMemory;
 use py_fields::Layout;
@@ -35,12 +36,18 @@ fn no_objects(class: u64) -> CountedClass
         more: 0,
         unread: 0,
         unknown: 0,
+        largest: none_large(),
     }
 }
 
 /// One more object of a class.
-fn with_object(counted: CountedClass, size: Option<u64>, more: Option<u64>) -> CountedClass
-    ensures { result ≡ with_object counted size more }
+fn with_object(
+    counted: CountedClass,
+    object: u64,
+    size: Option<u64>,
+    more: Option<u64>,
+) -> CountedClass
+    ensures { result ≡ with_object counted object size more }
 {
     CountedClass {
         class: counted.class,
@@ -49,6 +56,7 @@ fn with_object(counted: CountedClass, size: Option<u64>, more: Option<u64>) -> C
         more: counted.more.saturating_add(more.unwrap_or(0)),
         unread: counted.unread.saturating_add(u64::from(more.is_none())),
         unknown: counted.unknown.saturating_add(u64::from(size.is_none())),
+        largest: with_large(counted.largest, large_of(object, size, more)),
     }
 }
 
@@ -98,7 +106,7 @@ fn add_object<P: ProcessMemory>(
     let tally = tally_at(process, layout, places, tallies, its)?;
     let size = read_size(process, layout, places, tally.sized, object)?;
     let more = read_more(process, places, tally.sized, object)?;
-    let counted = with_object(tally.counted, size, more);
+    let counted = with_object(tally.counted, object, size, more);
     tallies.insert(
         its,
         Tally {

@@ -42,11 +42,11 @@ returns g c =
     (reading_then (λ m. (class : ℕ) → get nat_cmp c.insert.new.self class ≡ tally_after l p m object (Some its)
     (get nat_cmp old) class)
     (reading_then (λ m. (w : Option ℕ) → w ≡ more_by p m tally.sized object
-    → record { sized = tally.sized; counted = with_object tally.counted c.in_ok-size.size w }
+    → record { sized = tally.sized; counted = with_object tally.counted object c.in_ok-size.size w }
     ≡ tally_with l p m object (tally_or_new (class_size_at l p m its) its (get nat_cmp old its)))
     c.in_ok-tally.ensures c.in_ok-size.ensures
-    (λ m a b w e. ap (λ k. record { sized = tally.sized; counted = with_object tally.counted c.in_ok-size.size k }) e
-    ∙ ap (λ k. record { sized = tally.sized; counted = with_object tally.counted k (more_by p m tally.sized object) }) b
+    (λ m a b w e. ap (λ k. record { sized = tally.sized; counted = with_object tally.counted object c.in_ok-size.size k }) e
+    ∙ ap (λ k. record { sized = tally.sized; counted = with_object tally.counted object k (more_by p m tally.sized object) }) b
     ∙ ap (tally_with l p m object) a))
     c.in_ok-more.ensures
     (λ m f d class. put old c.insert.new.self its added c.in_ok-insert.ensures.updates class
