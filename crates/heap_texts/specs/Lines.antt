@@ -1,10 +1,12 @@
 -- The parts of the lines of a heap.
-use Rattle.std.specs.Prelude.{ℕ, ◌-◌, ◌++◌, ◌==◌, nat_le, Bool, true, false, if◌then◌else◌, List, [], Option, Some, None}
-use Rattle.std.specs.Prelude.{codes, decimal}
+use Rattle.std.specs.Prelude.{ℕ, ◌-◌, ◌++◌, ◌==◌, nat_le, Bool, true, false, if◌then◌else◌, List, [], Option, Some}
+use Rattle.std.specs.Prelude.{None, codes, decimal}
 use Rattle.std.specs.Fmt.{digits}
 use Rattle.exception_texts.specs.Text.{named_text}
 use Rattle.gc_lists.specs.declared.turn.ListEnd.{ListEnd}
 use Rattle.gc_lists.specs.declared.turn.ListEnd.TheVariants.{Whole, Torn, Unreadable, Cut}
+use Rattle.py_census.specs.declared.large.LargeObject.{LargeObject}
+use Rattle.py_census.specs.declared.large.Largest.{Largest}
 use Rattle.py_heap.specs.declared.heap.Heap.{Heap}
 use Rattle.py_heap.specs.declared.heap.HeapClass.{HeapClass}
 
@@ -56,6 +58,17 @@ abbrev pub class_line : HeapClass → List ℕ
 class_line c = size_text c.counted.objects c.counted.bytes ++ (more_text c.counted.more
     ++ (unknown_text c.counted.unknown ++ (unread_text c.counted.unread
     ++ (codes ": " ++ (named_text c.name ++ codes "\n")))))
+
+-- an object with its bytes, where there is one
+abbrev pub large_text : (before : List ℕ) → Option LargeObject → List ℕ
+large_text before None = []
+large_text before (Some large) =
+    before ++ (decimal large.bytes ++ (codes " at 0x" ++ digits 16 false large.object))
+
+-- the largest objects of a class
+abbrev pub largest_line : Largest → List ℕ
+largest_line l = large_text (codes "        the largest: ") l.first ++ (large_text (codes ", ") l.second
+    ++ (large_text (codes ", ") l.third ++ codes "\n"))
 
 -- how many classes have no line, where there is one
 abbrev pub rest_line : (classes : ℕ) → List ℕ

@@ -1,10 +1,12 @@
 //! The parts of the lines of a heap.
 ghost use Rattle.std.specs.Prelude.{◌≡◌, ◌++◌, OnOk, string_bytes};
 ghost use Rattle.heap_texts.specs.Lines.{class_line, collecting_line, counts_text, lead_text, list_line, size_text};
-ghost use Rattle.heap_texts.specs.Lines.{lost_line, more_text, rest_line, sets_line, unknown_text, unread_text};
+ghost use Rattle.heap_texts.specs.Lines.{large_text, largest_line, lost_line, more_text, rest_line, sets_line};
+ghost use Rattle.heap_texts.specs.Lines.{unknown_text, unread_text};
 
 use exception_texts::push_named;
 use gc_lists::ListEnd;
+use py_census::{LargeObject, Largest};
 use py_heap::{Generation, Heap, HeapClass};
 use std::alloc::{AllocError, Global};
 
@@ -103,6 +105,30 @@ fn push_size(text: &mut String, objects: u64, bytes: u64) -> Result<(), AllocErr
     ensures { OnOk result (string_bytes text.new ≡ string_bytes text.old ++ size_text objects bytes) }
 {
     write!(text, "    {objects} objects, {bytes} bytes")
+}
+
+/// An object with its bytes, where there is one.
+fn push_large(text: &mut String, before: &str, large: Option<LargeObject>) -> Result<(), AllocError>
+    ensures { OnOk result (string_bytes text.new ≡ string_bytes text.old ++ large_text before.now large) }
+{
+    match large {
+        None => Ok(()),
+        Some(large) => {
+            let object = large.object;
+            let bytes = large.bytes;
+            write!(text, "{before}{bytes} at 0x{object:x}")
+        }
+    }
+}
+
+/// The line of the largest objects of a class.
+pub(crate) fn push_largest(text: &mut String, largest: Largest) -> Result<(), AllocError>
+    ensures { OnOk result (string_bytes text.new ≡ string_bytes text.old ++ largest_line largest) }
+{
+    push_large(text, "        the largest: ", largest.first)?;
+    push_large(text, ", ", largest.second)?;
+    push_large(text, ", ", largest.third)?;
+    text.push_str("\n")
 }
 
 /// The line of a class.

@@ -58,7 +58,8 @@ abbrev pub AreHeapsIf : Known → Layout → Option HeapPlaces → Memory → Li
 AreHeapsIf k l None m is told = told ≡ NotDescribed
 AreHeapsIf k l (Some p) m is told = AreHeapsBy k l p m is p.lists.home told
 
--- the heaps of a process, by the places that the tables and the records have for its version, and by the classes of sets
+-- the heaps of a process, by the places that the tables and the records have for its version, and by its classes of
+-- sets
 abbrev pub AreHeaps : Known → Version → Layout → Records → Memory → List SalvagedInterpreter → Heaps → Type 0
 AreHeaps k v l r m is told = AreHeapsIf k l (heap_places v l r (set_classes k)) m is told
 

@@ -1,5 +1,5 @@
--- Which classes are those of sets: `set`, `frozenset`, and each that leads to one of them by its first bases (`tp_base`,
--- Include/cpython/object.h; up to 3.7 Include/object.h). That 16 bases are looked at is this project's rule.
+-- Which classes are those of sets: `set`, `frozenset`, and each that leads to one of them by its first bases
+-- (`tp_base`, Include/cpython/object.h; up to 3.7 Include/object.h). That 16 bases are looked at is this project's rule.
 use Rattle.std.specs.Prelude.{ℕ, zero, suc, ◌+◌, nat_eq, ◌||◌, Bool, true, false, if◌then◌else◌, Option, Some, None}
 use Rattle.process_memory.specs.Memory.{Found, Memory, word_at}
 use Rattle.std.specs.Prelude.{Ok, Err}

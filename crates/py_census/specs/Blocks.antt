@@ -1,7 +1,7 @@
 -- How many bytes an object has in blocks of their own: `list___sizeof___impl` of Objects/listobject.c, and
 -- `_PyDict_KeysSize` and `USABLE_FRACTION` of Objects/dictobject.c, by which a dict's keys count where their number of
--- owners is 1 (`_PyDict_SizeOf`), and `set_sizeof` of Objects/setobject.c (`set___sizeof___impl` from 3.13 on), by which
--- a set's table counts where it isn't the small one of the set's own block. Other blocks are not counted, by this
+-- owners is 1 (`_PyDict_SizeOf`), and `set_sizeof` of Objects/setobject.c (`set___sizeof___impl` from 3.13 on), by
+-- which a set's table counts where it isn't the small one of the set's own block. Other blocks are not counted, by this
 -- project's rule.
 use Rattle.std.specs.Prelude.{ℕ, ◌+◌, ◌*◌, ◌/◌, ◌%◌, ◌^◌, nat_eq, nat_lt, ◌&&◌, Bool, true, false, if◌then◌else◌}
 use Rattle.std.specs.Prelude.{Option, Some, None}

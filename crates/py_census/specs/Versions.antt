@@ -1,8 +1,9 @@
 -- Where the sizes of objects stand, by version: `PyVarObject` of Include/object.h and `PyTypeObject` of
 -- Include/cpython/object.h (up to 3.7 both of Include/object.h), `PyGC_Head` of Include/objimpl.h (3.7),
 -- Include/cpython/objimpl.h and Include/internal/pycore_gc.h, `_PyType_PreHeaderSize` of
--- Include/internal/pycore_object.h, and `PyListObject` of Include/cpython/listobject.h (up to 3.8
--- Include/listobject.h), and `PySetObject` of Include/cpython/setobject.h (up to 3.10 Include/setobject.h). The numbers are those of machines of 8 byte words.
+-- Include/internal/pycore_object.h, `PyListObject` of Include/cpython/listobject.h (up to 3.8 Include/listobject.h), and
+-- `PySetObject` of Include/cpython/setobject.h (up to 3.10 Include/setobject.h). The numbers are those of machines of
+-- 8 byte words.
 use Rattle.std.specs.Prelude.{ℕ, nat_eq, ◌||◌, if◌then◌else◌, Option, Some, None}
 use Rattle.py_census.specs.declared.places.KeysForm.{KeysForm}
 use Rattle.py_census.specs.declared.places.KeysForm.TheVariants.{Slots, Powers}

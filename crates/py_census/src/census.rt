@@ -24,8 +24,8 @@ pub struct CountedClass {
     /// How many bytes their own blocks have in all, of those whose size is known, without the values of attributes that
     /// stand in them from 3.13 on.
     pub bytes: u64,
-    /// How many bytes they have beside these in blocks of their own, of those of which that is known: of lists the items
-    /// that they have room for, of dicts the keys that no other object has, of sets the tables.
+    /// How many bytes they have beside these in blocks of their own, of those of which that is known: of lists the
+    /// items that they have room for, of dicts the keys that no other object has, of sets the tables.
     pub more: u64,
     /// Of how many of them that is not known: a word that says it, or what their class says, is not in memory, or it is
     /// 2^64 bytes or more.

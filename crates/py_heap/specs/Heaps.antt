@@ -1,5 +1,5 @@
 -- What a heap holds: the objects of the collector's lists, by class.
-use Rattle.std.specs.Prelude.{◌≡◌, ℕ, ◌+◌, ◌*◌, List, length, Option, Some, None, is_some, Result, Ok, Err}
+use Rattle.std.specs.Prelude.{◌≡◌, ℕ, ◌+◌, ◌*◌, List, length, is_some, Result, Ok, Err}
 use Rattle.process_memory.specs.Memory.{Memory}
 use Rattle.py_fields.specs.declared.layout.Layout.{Layout}
 use Rattle.gc_lists.specs.Lists.{Four, IsTold, Told}
@@ -21,8 +21,8 @@ use Rattle.py_heap.specs.declared.places.HeapPlaces.{HeapPlaces}
 abbrev pub generation_of : Listing → Generation
 generation_of list = record { objects = length list.members; end = list.end }
 
--- What is told of lists: how many objects each has and how it ends, whether tables of sets are counted, what is counted of the objects of all of them, and
--- the names of the first classes.
+-- What is told of lists: how many objects each has and how it ends, whether tables of sets are counted, what is counted
+-- of the objects of all of them, and the names of the first classes.
 pub record IsHeap (l : Layout) (p : HeapPlaces) (m : Memory) (lists : Four) (heap : Heap) : Type 0 where
   pub collecting : heap.collecting ≡ lists.collecting
   pub youngest : heap.youngest ≡ generation_of lists.youngest

@@ -30,8 +30,8 @@ fn small(number: u64) -> Option<u32>
     }
 }
 
-/// Where these stand in a version, by its layout, its records and the classes of sets. None where this crate's tables lack the version (they
-/// have 3.7 to 3.13), or the records lack where classes keep their names.
+/// Where these stand in a version, by its layout, its records and the classes of sets. None where this crate's tables
+/// lack the version (they have 3.7 to 3.13), or the records lack where classes keep their names.
 pub fn heap_places(
     version: &Version,
     layout: &Layout,
