@@ -18,7 +18,7 @@ use Rattle.py_heap.specs.declared.heap.Heaps.{Heaps}
 use Rattle.py_heap.specs.declared.heap.Heaps.TheVariants.{NotDescribed, OfRuntime, OfInterpreters}
 use Rattle.py_heap.specs.declared.heap.InterpreterHeap.{InterpreterHeap}
 use Rattle.heap_texts.specs.Trees.{class_tree, classes_tree, collecting_tree, end_tree, heap_tree, heaps_tree}
-use Rattle.heap_texts.specs.Trees.{interpreter_tree, interpreters_tree, list_tree, lists_tree, name_tree, owner_tree}
+use Rattle.heap_texts.specs.Trees.{interpreters_tree, list_tree, lists_tree, name_tree, owner_tree}
 use Rattle.heap_texts.specs.Text.{most_largest}
 use Rattle.heap_texts.specs.Trees.{class_with, large_trees, largest_tree, most_classes, own_tree, told_tree, whole_tree}
 

@@ -5,6 +5,7 @@ use Rattle.std.specs.Fmt.{digits}
 use Rattle.exception_texts.specs.Text.{named_text}
 use Rattle.gc_lists.specs.declared.turn.ListEnd.{ListEnd}
 use Rattle.gc_lists.specs.declared.turn.ListEnd.TheVariants.{Whole, Torn, Unreadable, Cut}
+use Rattle.py_census.specs.declared.census.CountedClass.{CountedClass}
 use Rattle.py_census.specs.declared.large.LargeObject.{LargeObject}
 use Rattle.py_census.specs.declared.large.Largest.{Largest}
 use Rattle.py_heap.specs.declared.heap.Heap.{Heap}
@@ -53,11 +54,13 @@ size_text objects bytes = codes "    " ++ (decimal objects ++ (codes " objects, 
 abbrev pub more_text : ℕ → List ℕ
 more_text n = if n == 0 then [] else codes " and " ++ (decimal n ++ codes " in other blocks")
 
--- how many objects there are of a class, how many bytes, and its name, which ends the line
+-- how many objects there are of a class, how many bytes, and what is not known of them
+abbrev pub counted_text : CountedClass → List ℕ
+counted_text c = size_text c.objects c.bytes ++ (more_text c.more ++ (unknown_text c.unknown ++ unread_text c.unread))
+
+-- the same with its name, which ends the line
 abbrev pub class_line : HeapClass → List ℕ
-class_line c = size_text c.counted.objects c.counted.bytes ++ (more_text c.counted.more
-    ++ (unknown_text c.counted.unknown ++ (unread_text c.counted.unread
-    ++ (codes ": " ++ (named_text c.name ++ codes "\n")))))
+class_line c = counted_text c.counted ++ (codes ": " ++ (named_text c.name ++ codes "\n"))
 
 -- an object with its bytes, where there is one
 abbrev pub large_text : (before : List ℕ) → Option LargeObject → List ℕ

@@ -1,12 +1,12 @@
 //! The parts of the lines of a heap.
 ghost use Rattle.std.specs.Prelude.{◌≡◌, ◌++◌, OnOk, string_bytes};
-ghost use Rattle.heap_texts.specs.Lines.{class_line, collecting_line, counts_text, lead_text, list_line, size_text};
-ghost use Rattle.heap_texts.specs.Lines.{large_text, largest_line, lost_line, more_text, rest_line, sets_line};
-ghost use Rattle.heap_texts.specs.Lines.{unknown_text, unread_text};
+ghost use Rattle.heap_texts.specs.Lines.{class_line, collecting_line, counted_text, counts_text, large_text};
+ghost use Rattle.heap_texts.specs.Lines.{largest_line, lead_text, list_line, lost_line, more_text, rest_line};
+ghost use Rattle.heap_texts.specs.Lines.{sets_line, size_text, unknown_text, unread_text};
 
 use exception_texts::push_named;
 use gc_lists::ListEnd;
-use py_census::{LargeObject, Largest};
+use py_census::{CountedClass, LargeObject, Largest};
 use py_heap::{Generation, Heap, HeapClass};
 use std::alloc::{AllocError, Global};
 
@@ -131,6 +131,16 @@ pub(crate) fn push_largest(text: &mut String, largest: Largest) -> Result<(), Al
     text.push_str("\n")
 }
 
+/// What is counted of a class, before its name.
+fn push_counted(text: &mut String, counted: &CountedClass) -> Result<(), AllocError>
+    ensures { OnOk result (string_bytes text.new ≡ string_bytes text.old ++ counted_text counted.now) }
+{
+    push_size(text, counted.objects, counted.bytes)?;
+    push_more(text, counted.more)?;
+    push_unknown(text, counted.unknown)?;
+    push_unread(text, counted.unread)
+}
+
 /// The line of a class.
 pub(crate) fn push_class(
     alloc: Global,
@@ -139,10 +149,7 @@ pub(crate) fn push_class(
 ) -> Result<(), AllocError>
     ensures { OnOk result (string_bytes text.new ≡ string_bytes text.old ++ class_line class.now) }
 {
-    push_size(text, class.counted.objects, class.counted.bytes)?;
-    push_more(text, class.counted.more)?;
-    push_unknown(text, class.counted.unknown)?;
-    push_unread(text, class.counted.unread)?;
+    push_counted(text, &class.counted)?;
     text.push_str(": ")?;
     push_named(alloc, text, &class.name)?;
     text.push_str("\n")

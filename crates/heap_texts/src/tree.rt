@@ -109,7 +109,10 @@ fn push_large(
 {
     match large {
         None => Ok(()),
-        Some(large) => values.push(large_value(alloc, large)?),
+        Some(large) => {
+            values.push(large_value(alloc, large)?)?;
+            Ok(())
+        }
     }
 }
 
