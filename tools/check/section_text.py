@@ -252,7 +252,7 @@ def check_heap(tree: Tree, is_asked: bool) -> None:
         if it["kind"] != "heap":
             check_one_of(it, {"no lists": ("interpreter",), "no runtime": ("interpreter",)})
             continue
-        check_keys(it, "classes", "collecting", "interpreter", "kind", "lists", "more_classes", "unreadable")
+        check_keys(it, "classes", "collecting", "interpreter", "kind", "lists", "more_classes", "sets", "unreadable")
         check_keys(it["lists"], "middle", "oldest", "permanent", "youngest")
         for one in it["lists"].values():
             check_keys(one, "end", "objects")
@@ -263,8 +263,9 @@ def check_heap(tree: Tree, is_asked: bool) -> None:
 def check_classes(heap: Tree) -> None:
     """Fails where the classes of a heap stand twice or out of order, or have other objects in all than the lists."""
     rows = heap["classes"]
-    for it in rows:
-        check_keys(it, "address", "bytes", "more", "name", "objects", "unknown")
+    for at, it in enumerate(rows):
+        check_keys(it, "address", "bytes", "largest", "more", "name", "objects", "unknown", "unread")
+        check_largest(it, at < LARGEST)
     keys = [(-it["bytes"], int(it["address"], 16)) for it in rows]
     if keys != sorted(set(keys)) or len({it["address"] for it in rows}) != len(rows):
         raise Failure("classes of a heap aren't in order, or stand twice")
@@ -272,6 +273,22 @@ def check_classes(heap: Tree) -> None:
     listed = sum(it["objects"] for it in heap["lists"].values())
     if objects > listed or not heap["more_classes"] and objects != listed:
         raise Failure(f"{objects} objects are counted, and others are in the lists")
+
+
+LARGEST = 10
+"""Of how many classes the largest objects are told."""
+
+
+def check_largest(it: Tree, is_told: bool) -> None:
+    """Fails where the largest objects of a class aren't in order, or are fewer or more than there are, or have more bytes than it has in all."""
+    if not is_told:
+        if it["largest"] is not None:
+            raise Failure(f"the largest objects of a class behind the first {LARGEST} are told: {it!r}")
+        return
+    rows = [(-one["bytes"], int(one["address"], 16)) for one in it["largest"]]
+    most = 2 ** 64 - 1
+    if rows != sorted(rows) or len(rows) != min(it["objects"], 3) or min(-sum(row[0] for row in rows), most) > min(it["bytes"] + it["more"], most):
+        raise Failure(f"the largest objects of a class: {it!r}")
 
 
 def heap_lines(heaps: Optional[Sequence[Tree]], is_asked: bool) -> List[str]:
@@ -296,21 +313,27 @@ def lines_of_heap(heap: Tree) -> List[str]:
         return [f"Heap of the {owner}: no symbol tells where it is"]
     youngest, middle, oldest, permanent = (heap["lists"][key]["objects"] for key, _ in LISTS)
     lines = [f"Heap of the {owner}: {youngest}, {middle}, {oldest} and {permanent} objects"]
+    lines += [] if heap["sets"] else ["    tables of sets are not counted: no symbol names their classes"]
     lines += ["    a collection runs"] if heap["collecting"] else []
     for end, name in ((heap["lists"][key]["end"], name) for key, name in LISTS):
         words = LIST_END_WORDS.get(end["kind"])
         lines += [f"    {name} {words} {end['address']}{' on' if end['kind'] == 'cut' else ''}"] if words else []
     lines += [f"    {heap['unreadable']} objects whose class can't be read"] if heap["unreadable"] else []
-    lines += [line_of_class(it) for it in heap["classes"][:CLASSES]]
+    lines += [line for it in heap["classes"][:CLASSES] for line in lines_of_class(it)]
     more = len(heap["classes"]) + heap["more_classes"] - CLASSES
     return lines + ([f"    and {more} more classes"] if more > 0 else [])
 
 
-def line_of_class(it: Tree) -> str:
-    """The line of a class."""
+def lines_of_class(it: Tree) -> List[str]:
+    """The line of a class, and that of its largest objects where they are told."""
     blocks = f" and {it['more']} in other blocks" if it["more"] else ""
     unknown = f", {it['unknown']} of unknown size" if it["unknown"] else ""
-    return f"    {it['objects']} objects, {it['bytes']} bytes{blocks}{unknown}: {'?' if it['name'] is None else it['name']}"
+    unread = f", {it['unread']} of unknown other blocks" if it["unread"] else ""
+    line = f"    {it['objects']} objects, {it['bytes']} bytes{blocks}{unknown}{unread}: {'?' if it['name'] is None else it['name']}"
+    if it["largest"] is None:
+        return [line]
+    largest = ", ".join(f"{one['bytes']} at {one['address']}" for one in it["largest"])
+    return [line, f"        the largest: {largest}"]
 
 
 def wait_lines(waits: Sequence[Tree]) -> List[str]:

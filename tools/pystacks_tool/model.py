@@ -228,9 +228,13 @@ class HeapClass(NamedTuple):
     size: int
     """How many bytes their own blocks have, of those whose size is known."""
     more: int = 0
-    """How many lists and dicts have in other blocks."""
+    """How many lists, dicts and sets have in other blocks."""
     unknown: int = 0
     """Of how many of them it isn't."""
+    unread: int = 0
+    """Of how many of them the bytes in other blocks aren't known."""
+    largest: Tuple[Tuple[str, int], ...] = ()
+    """The largest of them, at most three: the address and the bytes. Of classes with fewer bytes they aren't told."""
 
     @property
     def total(self) -> int:

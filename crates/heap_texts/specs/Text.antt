@@ -1,5 +1,5 @@
 -- The lines of the heaps of a process.
-use Rattle.std.specs.Prelude.{ℕ, ◌++◌, false, List, length, map, take, Option, Some, None, codes}
+use Rattle.std.specs.Prelude.{ℕ, ◌++◌, false, List, drop, length, map, take, Option, Some, None, codes}
 use Rattle.std.specs.Fmt.{digits}
 use Rattle.std.specs.List.{concat}
 use Rattle.py_heap.specs.declared.heap.Heap.{Heap}
@@ -10,6 +10,7 @@ use Rattle.py_heap.specs.declared.heap.Heaps.{Heaps}
 use Rattle.py_heap.specs.declared.heap.Heaps.TheVariants.{NotDescribed, OfRuntime, OfInterpreters}
 use Rattle.py_heap.specs.declared.heap.InterpreterHeap.{InterpreterHeap}
 use Rattle.heap_texts.specs.Lines.{class_line, collecting_line, counts_text, lead_text, list_line, lost_line, rest_line}
+use Rattle.heap_texts.specs.Lines.{largest_line, sets_line}
 
 -- how many classes have a line
 abbrev pub most_lines : ℕ
@@ -24,9 +25,24 @@ lists_text h = list_line (codes "generation 0") h.youngest.end ++ (list_line (co
 abbrev pub classes_text : List HeapClass → List ℕ
 classes_text classes = concat (map (λ c. class_line c) classes)
 
+-- a class with its largest objects
+abbrev pub whole_text : HeapClass → List ℕ
+whole_text c = class_line c ++ largest_line c.counted.largest
+
+abbrev pub wholes_text : List HeapClass → List ℕ
+wholes_text classes = concat (map (λ c. whole_text c) classes)
+
+-- of how many classes the largest objects are told
+abbrev pub most_largest : ℕ
+most_largest = 10
+
+abbrev pub table_text : List HeapClass → List ℕ
+table_text classes = wholes_text (take most_largest classes) ++ classes_text (drop most_largest classes)
+
 abbrev pub heap_text : Heap → List ℕ
-heap_text h = counts_text h ++ (collecting_line h.collecting ++ (lists_text h ++ (lost_line h.unreadable
-    ++ (classes_text (take most_lines h.classes.items) ++ rest_line (length h.classes.items)))))
+heap_text h = counts_text h ++ (sets_line h.sets ++ (collecting_line h.collecting ++ (lists_text h
+    ++ (lost_line h.unreadable
+    ++ (table_text (take most_lines h.classes.items) ++ rest_line (length h.classes.items))))))
 
 abbrev pub none_line : (head : ℕ) → List ℕ
 none_line head = codes "no list at 0x" ++ (digits 16 false head ++ codes "\n")

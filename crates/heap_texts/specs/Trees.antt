@@ -1,5 +1,6 @@
 -- The JSON of the heaps of a process. The keys of an object stand in the order of their bytes.
-use Rattle.std.specs.Prelude.{ℕ, ◌-◌, ◌++◌, Bool, false, List, [], ◌∷◌, length, map, take, Option, Some, None, codes}
+use Rattle.std.specs.Prelude.{ℕ, ◌-◌, ◌++◌, Bool, false, List, [], ◌∷◌, drop, length, map, take, Option, Some, None}
+use Rattle.std.specs.Prelude.{codes}
 use Rattle.std.specs.Fmt.{digits}
 use Rattle.serde_json.specs.Data.{Data, array, boolean, member, no_members, null, number, object, string, unsigned}
 use Rattle.serde_json.specs.View.{items_of}
@@ -7,6 +8,9 @@ use Rattle.exception_texts.specs.Text.{known_class}
 use Rattle.gc_lists.specs.declared.turn.ListEnd.{ListEnd}
 use Rattle.gc_lists.specs.declared.turn.ListEnd.TheVariants.{Whole, Torn, Unreadable, Cut}
 use Rattle.py_exceptions.specs.declared.name.ClassName.{ClassName}
+use Rattle.py_census.specs.declared.large.LargeObject.{LargeObject}
+use Rattle.py_census.specs.declared.large.Largest.{Largest}
+use Rattle.heap_texts.specs.Text.{most_largest}
 use Rattle.py_heap.specs.declared.heap.Generation.{Generation}
 use Rattle.py_heap.specs.declared.heap.Heap.{Heap}
 use Rattle.py_heap.specs.declared.heap.HeapClass.{HeapClass}
@@ -47,17 +51,42 @@ abbrev pub name_tree : Option ClassName → Data
 name_tree None = null
 name_tree (Some name) = string (known_class name)
 
-abbrev pub class_tree : HeapClass → Data
-class_tree c = object (
+-- an object with its bytes
+abbrev pub large_tree : LargeObject → Data
+large_tree large = object (
+    member (codes "address") (string (address_text large.object)) (
+    member (codes "bytes") (number (unsigned large.bytes)) no_members))
+
+abbrev pub large_trees : Option LargeObject → List Data
+large_trees None = []
+large_trees (Some large) = large_tree large ∷ []
+
+-- the largest objects of a class
+abbrev pub largest_tree : Largest → Data
+largest_tree l = array (items_of (large_trees l.first ++ (large_trees l.second ++ large_trees l.third)))
+
+-- a class with what is told of its largest objects
+abbrev pub class_with : HeapClass → (largest : Data) → Data
+class_with c largest = object (
     member (codes "address") (string (address_text c.counted.class)) (
     member (codes "bytes") (number (unsigned c.counted.bytes)) (
+    member (codes "largest") largest (
     member (codes "more") (number (unsigned c.counted.more)) (
     member (codes "name") (name_tree c.name) (
     member (codes "objects") (number (unsigned c.counted.objects)) (
-    member (codes "unknown") (number (unsigned c.counted.unknown)) no_members))))))
+    member (codes "unknown") (number (unsigned c.counted.unknown)) (
+    member (codes "unread") (number (unsigned c.counted.unread)) no_members))))))))
 
+abbrev pub whole_tree : HeapClass → Data
+whole_tree c = class_with c (largest_tree c.counted.largest)
+
+abbrev pub class_tree : HeapClass → Data
+class_tree c = class_with c null
+
+-- classes, the first ten with their largest objects
 abbrev pub classes_tree : List HeapClass → Data
-classes_tree classes = array (items_of (map (λ c. class_tree c) classes))
+classes_tree classes = array (items_of (map (λ c. whole_tree c) (take most_largest classes)
+    ++ map (λ c. class_tree c) (drop most_largest classes)))
 
 abbrev pub collecting_tree : Option Bool → Data
 collecting_tree None = null
@@ -75,7 +104,8 @@ heap_tree owner h = object (
     member (codes "kind") (string (codes "heap")) (
     member (codes "lists") (lists_tree h) (
     member (codes "more_classes") (number (unsigned (length h.classes.items - most_classes))) (
-    member (codes "unreadable") (number (unsigned h.unreadable)) no_members)))))))
+    member (codes "sets") (boolean h.sets) (
+    member (codes "unreadable") (number (unsigned h.unreadable)) no_members))))))))
 
 abbrev pub word_tree : Data → List ℕ → Data
 word_tree owner kind = object (

@@ -1,5 +1,5 @@
 //! The first of some classes.
-ghost use Rattle.std.specs.Prelude.{◌≡◌, ◌-◌, length, take};
+ghost use Rattle.std.specs.Prelude.{◌≡◌, ◌-◌, drop, length, take};
 
 use py_heap::HeapClass;
 
@@ -11,6 +11,16 @@ pub(crate) fn first_of(classes: &[HeapClass], most: usize) -> &[HeapClass]
         return classes;
     }
     &classes[..most]
+}
+
+/// Those behind them.
+pub(crate) fn rest_of(classes: &[HeapClass], most: usize) -> &[HeapClass]
+    ensures { result.now ≡ drop most classes.now }
+{
+    if classes.len() <= most {
+        return &[];
+    }
+    &classes[most..]
 }
 
 /// How many are behind these.

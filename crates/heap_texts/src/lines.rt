@@ -1,10 +1,12 @@
 //! The parts of the lines of a heap.
 ghost use Rattle.std.specs.Prelude.{◌≡◌, ◌++◌, OnOk, string_bytes};
-ghost use Rattle.heap_texts.specs.Lines.{class_line, collecting_line, counts_text, lead_text, list_line, size_text};
-ghost use Rattle.heap_texts.specs.Lines.{lost_line, more_text, rest_line, unknown_text};
+ghost use Rattle.heap_texts.specs.Lines.{class_line, collecting_line, counted_text, counts_text, large_text};
+ghost use Rattle.heap_texts.specs.Lines.{largest_line, lead_text, list_line, lost_line, more_text, rest_line};
+ghost use Rattle.heap_texts.specs.Lines.{sets_line, size_text, unknown_text, unread_text};
 
 use exception_texts::push_named;
 use gc_lists::ListEnd;
+use py_census::{CountedClass, LargeObject, Largest};
 use py_heap::{Generation, Heap, HeapClass};
 use std::alloc::{AllocError, Global};
 
@@ -30,6 +32,16 @@ pub(crate) fn push_counts(text: &mut String, heap: &Heap) -> Result<(), AllocErr
         text,
         "{youngest}, {middle}, {oldest} and {permanent} objects\n"
     )
+}
+
+/// That the tables of sets are not counted, where they aren't.
+pub(crate) fn push_sets(text: &mut String, sets: bool) -> Result<(), AllocError>
+    ensures { OnOk result (string_bytes text.new ≡ string_bytes text.old ++ sets_line sets) }
+{
+    if sets {
+        return Ok(());
+    }
+    text.push_str("    tables of sets are not counted: no symbol names their classes\n")
 }
 
 /// Whether a collection runs, where it does.
@@ -68,7 +80,17 @@ fn push_unknown(text: &mut String, unknown: u64) -> Result<(), AllocError>
     write!(text, ", {unknown} of unknown size")
 }
 
-/// How many bytes lists and dicts have in blocks beside their own, where there are any.
+/// Of how many objects the bytes of other blocks are not known, where there is one.
+fn push_unread(text: &mut String, unread: u64) -> Result<(), AllocError>
+    ensures { OnOk result (string_bytes text.new ≡ string_bytes text.old ++ unread_text unread) }
+{
+    if unread == 0 {
+        return Ok(());
+    }
+    write!(text, ", {unread} of unknown other blocks")
+}
+
+/// How many bytes lists, dicts and sets have in blocks beside their own, where there are any.
 fn push_more(text: &mut String, more: u64) -> Result<(), AllocError>
     ensures { OnOk result (string_bytes text.new ≡ string_bytes text.old ++ more_text more) }
 {
@@ -85,6 +107,40 @@ fn push_size(text: &mut String, objects: u64, bytes: u64) -> Result<(), AllocErr
     write!(text, "    {objects} objects, {bytes} bytes")
 }
 
+/// An object with its bytes, where there is one.
+fn push_large(text: &mut String, before: &str, large: Option<LargeObject>) -> Result<(), AllocError>
+    ensures { OnOk result (string_bytes text.new ≡ string_bytes text.old ++ large_text before.now large) }
+{
+    match large {
+        None => Ok(()),
+        Some(large) => {
+            let object = large.object;
+            let bytes = large.bytes;
+            write!(text, "{before}{bytes} at 0x{object:x}")
+        }
+    }
+}
+
+/// The line of the largest objects of a class.
+pub(crate) fn push_largest(text: &mut String, largest: Largest) -> Result<(), AllocError>
+    ensures { OnOk result (string_bytes text.new ≡ string_bytes text.old ++ largest_line largest) }
+{
+    push_large(text, "        the largest: ", largest.first)?;
+    push_large(text, ", ", largest.second)?;
+    push_large(text, ", ", largest.third)?;
+    text.push_str("\n")
+}
+
+/// What is counted of a class, before its name.
+fn push_counted(text: &mut String, counted: &CountedClass) -> Result<(), AllocError>
+    ensures { OnOk result (string_bytes text.new ≡ string_bytes text.old ++ counted_text counted.now) }
+{
+    push_size(text, counted.objects, counted.bytes)?;
+    push_more(text, counted.more)?;
+    push_unknown(text, counted.unknown)?;
+    push_unread(text, counted.unread)
+}
+
 /// The line of a class.
 pub(crate) fn push_class(
     alloc: Global,
@@ -93,9 +149,7 @@ pub(crate) fn push_class(
 ) -> Result<(), AllocError>
     ensures { OnOk result (string_bytes text.new ≡ string_bytes text.old ++ class_line class.now) }
 {
-    push_size(text, class.counted.objects, class.counted.bytes)?;
-    push_more(text, class.counted.more)?;
-    push_unknown(text, class.counted.unknown)?;
+    push_counted(text, &class.counted)?;
     text.push_str(": ")?;
     push_named(alloc, text, &class.name)?;
     text.push_str("\n")

@@ -1,17 +1,22 @@
 //! The lines of the heaps of a process.
 ghost use Rattle.std.specs.Prelude.{◌≡◌, ◌++◌, OnOk, string_bytes};
 ghost use Rattle.heap_texts.specs.Text.{classes_text, heap_text, heaps_text, interpreter_text, interpreters_text};
-ghost use Rattle.heap_texts.specs.Text.{lists_text, none_line, runtime_text, told_text};
+ghost use Rattle.heap_texts.specs.Text.{lists_text, none_line, runtime_text, table_text, told_text, whole_text};
+ghost use Rattle.heap_texts.specs.Text.{wholes_text};
 
-use crate::firsts::first_of;
+use crate::firsts::{first_of, rest_of};
 use crate::lines::{
-    push_class, push_collecting, push_counts, push_lead, push_list, push_lost, push_rest,
+    push_class, push_collecting, push_counts, push_largest, push_lead, push_list, push_lost,
+    push_rest, push_sets,
 };
 use py_heap::{Heap, HeapClass, HeapTold, Heaps, InterpreterHeap};
 use std::alloc::{AllocError, Global};
 
 /// How many classes have a line.
 const MOST_LINES: usize = 40;
+
+/// Of how many classes the largest objects are told.
+pub(crate) const MOST_LARGEST: usize = 10;
 
 /// How the lists end that don't end as whole ones do.
 fn push_lists(text: &mut String, heap: &Heap) -> Result<(), AllocError>
@@ -33,15 +38,42 @@ fn push_classes(alloc: Global, text: &mut String, classes: &[HeapClass]) -> Resu
     Ok(())
 }
 
+/// A class with its largest objects.
+fn push_whole(alloc: Global, text: &mut String, class: &HeapClass) -> Result<(), AllocError>
+    ensures { OnOk result (string_bytes text.new ≡ string_bytes text.old ++ whole_text class.now) }
+{
+    push_class(alloc, text, class)?;
+    push_largest(text, class.counted.largest)
+}
+
+/// The lines of some classes with their largest objects.
+fn push_wholes(alloc: Global, text: &mut String, classes: &[HeapClass]) -> Result<(), AllocError>
+    ensures { OnOk result (string_bytes text.new ≡ string_bytes text.old ++ wholes_text classes.now) }
+{
+    for class in classes {
+        push_whole(alloc, text, class)?;
+    }
+    Ok(())
+}
+
+/// The lines of some classes, of which the first ones have their largest objects.
+fn push_table(alloc: Global, text: &mut String, classes: &[HeapClass]) -> Result<(), AllocError>
+    ensures { OnOk result (string_bytes text.new ≡ string_bytes text.old ++ table_text classes.now) }
+{
+    push_wholes(alloc, text, first_of(classes, MOST_LARGEST))?;
+    push_classes(alloc, text, rest_of(classes, MOST_LARGEST))
+}
+
 /// What a heap holds.
 fn push_heap(alloc: Global, text: &mut String, heap: &Heap) -> Result<(), AllocError>
     ensures { OnOk result (string_bytes text.new ≡ string_bytes text.old ++ heap_text heap.now) }
 {
     push_counts(text, heap)?;
+    push_sets(text, heap.sets)?;
     push_collecting(text, heap.collecting)?;
     push_lists(text, heap)?;
     push_lost(text, heap.unreadable)?;
-    push_classes(alloc, text, first_of(&heap.classes, MOST_LINES))?;
+    push_table(alloc, text, first_of(&heap.classes, MOST_LINES))?;
     push_rest(text, heap.classes.len())
 }
 
@@ -102,9 +134,10 @@ fn push_runtime(alloc: Global, text: &mut String, told: &Option<HeapTold>) -> Re
 }
 
 /// Appends the lines of the heaps of a process: of each interpreter (up to 3.8 of the runtime) how many objects the
-/// generations and the permanent one have, whether a collection runs, how each list ends that isn't whole, of how many
-/// objects the class can't be read, a line for each of the first 40 classes, and how many more there are; or that there
-/// is no list, or that heaps are not described. The one error is want of memory.
+/// generations and the permanent one have, that tables of sets are not counted if they aren't, whether a collection
+/// runs, how each list ends that isn't whole, of how many objects the class can't be read, a line for each of the first
+/// 40 classes, behind those of the first ten their three largest objects, and how many more classes there are; or that
+/// there is no list, or that heaps are not described. The one error is want of memory.
 pub fn push_heaps(alloc: Global, text: &mut String, heaps: &Heaps) -> Result<(), AllocError>
     ensures { OnOk result (string_bytes text.new ≡ string_bytes text.old ++ heaps_text heaps.now) }
 {

@@ -1,13 +1,16 @@
 //! The heaps of a process, as a JSON value.
-ghost use Rattle.std.specs.Prelude.{◌≡◌, IfOk, string_bytes};
+ghost use Rattle.std.specs.Prelude.{◌≡◌, ◌++◌, IfOk, OnOk, map, string_bytes};
 ghost use Rattle.serde_json.specs.View.{view};
-ghost use Rattle.heap_texts.specs.Trees.{address_text, class_tree, classes_tree, collecting_tree, end_tree, heap_tree};
-ghost use Rattle.heap_texts.specs.Trees.{heaps_tree, interpreter_tree, interpreters_tree, list_tree, lists_tree, name_tree};
-ghost use Rattle.heap_texts.specs.Trees.{owner_tree, place_tree, runtime_tree, told_tree, word_tree};
+ghost use Rattle.heap_texts.specs.Trees.{address_text, class_tree, class_with, classes_tree, collecting_tree};
+ghost use Rattle.heap_texts.specs.Trees.{end_tree, heap_tree, heaps_tree, interpreter_tree, interpreters_tree};
+ghost use Rattle.heap_texts.specs.Trees.{large_tree, large_trees, largest_tree, list_tree, lists_tree, name_tree};
+ghost use Rattle.heap_texts.specs.Trees.{owner_tree, place_tree, runtime_tree, told_tree, whole_tree, word_tree};
 
-use crate::firsts::{first_of, left_of};
+use crate::firsts::{first_of, left_of, rest_of};
+use crate::text::MOST_LARGEST;
 use exception_texts::push_named;
 use gc_lists::ListEnd;
+use py_census::{LargeObject, Largest};
 use py_exceptions::ClassName;
 use py_heap::{Generation, Heap, HeapClass, HeapTold, Heaps, InterpreterHeap};
 use serde_json::{Value, json};
@@ -85,28 +88,115 @@ fn name_value(alloc: Global, name: &Option<ClassName>) -> Result<Value, AllocErr
     Ok(Value::String(text))
 }
 
-fn class_value(alloc: Global, class: &HeapClass) -> Result<Value, AllocError>
-    ensures { IfOk result (λ value. view value ≡ class_tree class.now) }
+/// An object with its bytes.
+fn large_value(alloc: Global, large: LargeObject) -> Result<Value, AllocError>
+    ensures { IfOk result (λ value. view value ≡ large_tree large) }
+{
+    let address = address_text(alloc, large.object)?;
+    json!(in alloc; {
+        "address": address.as_str(),
+        "bytes": large.bytes
+    })
+}
+
+/// Adds an object, where there is one.
+fn push_large(
+    alloc: Global,
+    values: &mut Vec<Value>,
+    large: Option<LargeObject>,
+) -> Result<(), AllocError>
+    ensures { OnOk result (map view values.new.items ≡ map view values.old.items ++ large_trees large) }
+{
+    match large {
+        None => Ok(()),
+        Some(large) => {
+            values.push(large_value(alloc, large)?)?;
+            Ok(())
+        }
+    }
+}
+
+/// The largest objects of a class.
+fn largest_value(alloc: Global, largest: Largest) -> Result<Value, AllocError>
+    ensures { IfOk result (λ value. view value ≡ largest_tree largest) }
+{
+    let mut values = Vec::new(alloc);
+    push_large(alloc, &mut values, largest.first)?;
+    push_large(alloc, &mut values, largest.second)?;
+    push_large(alloc, &mut values, largest.third)?;
+    Ok(Value::Array(values))
+}
+
+/// A class, with what is told of its largest objects.
+fn class_with(alloc: Global, class: &HeapClass, largest: Value) -> Result<Value, AllocError>
+    ensures { IfOk result (λ value. view value ≡ class_with class.now (view largest)) }
 {
     let address = address_text(alloc, class.counted.class)?;
     let name = name_value(alloc, &class.name)?;
     json!(in alloc; {
         "address": address.as_str(),
         "bytes": class.counted.bytes,
+        "largest": largest,
         "more": class.counted.more,
         "name": name,
         "objects": class.counted.objects,
-        "unknown": class.counted.unknown
+        "unknown": class.counted.unknown,
+        "unread": class.counted.unread
     })
 }
 
+/// A class with its largest objects.
+fn whole_value(alloc: Global, class: &HeapClass) -> Result<Value, AllocError>
+    ensures { IfOk result (λ value. view value ≡ whole_tree class.now) }
+{
+    let largest = largest_value(alloc, class.counted.largest)?;
+    class_with(alloc, class, largest)
+}
+
+/// A class without them.
+fn class_value(alloc: Global, class: &HeapClass) -> Result<Value, AllocError>
+    ensures { IfOk result (λ value. view value ≡ class_tree class.now) }
+{
+    class_with(alloc, class, Value::Null)
+}
+
+/// Adds some classes with their largest objects.
+fn push_wholes(
+    alloc: Global,
+    values: &mut Vec<Value>,
+    classes: &[HeapClass],
+) -> Result<(), AllocError>
+    ensures { OnOk result (map view values.new.items
+        ≡ map view values.old.items ++ map (λ c. whole_tree c) classes.now) }
+{
+    for class in classes {
+        values.push(whole_value(alloc, class)?)?;
+    }
+    Ok(())
+}
+
+/// Adds some classes without them.
+fn push_classes(
+    alloc: Global,
+    values: &mut Vec<Value>,
+    classes: &[HeapClass],
+) -> Result<(), AllocError>
+    ensures { OnOk result (map view values.new.items
+        ≡ map view values.old.items ++ map (λ c. class_tree c) classes.now) }
+{
+    for class in classes {
+        values.push(class_value(alloc, class)?)?;
+    }
+    Ok(())
+}
+
+/// Some classes, of which the first ones have their largest objects.
 fn classes_value(alloc: Global, classes: &[HeapClass]) -> Result<Value, AllocError>
     ensures { IfOk result (λ value. view value ≡ classes_tree classes.now) }
 {
     let mut values = Vec::new(alloc);
-    for class in classes {
-        values.push(class_value(alloc, class)?)?;
-    }
+    push_wholes(alloc, &mut values, first_of(classes, MOST_LARGEST))?;
+    push_classes(alloc, &mut values, rest_of(classes, MOST_LARGEST))?;
     Ok(Value::Array(values))
 }
 
@@ -135,6 +225,7 @@ fn heap_value(alloc: Global, owner: Value, heap: &Heap) -> Result<Value, AllocEr
         "kind": "heap",
         "lists": lists,
         "more_classes": left,
+        "sets": heap.sets,
         "unreadable": heap.unreadable
     })
 }
@@ -200,12 +291,15 @@ fn runtime_value(alloc: Global, told: &Option<HeapTold>) -> Result<Value, AllocE
 /// The heaps of a process as a JSON value: null where they are not described, and else an array of an object for each
 /// interpreter, in order, with its address under `interpreter`, or of one for the runtime, with null.
 ///
-/// Its `kind` is `heap`, `no lists`, or `no runtime` where no symbol tells where the runtime's record is. A heap has its
-/// `lists` (`youngest`, `middle`, `oldest`, `permanent`), each with how many `objects` it has and how it ends (`kind`
-/// `whole`, `torn`, `unreadable` or `cut`, the last three with an `address`); whether a collection runs or null; its
-/// first 2,048 `classes`, most bytes first, how many more there are (`more_classes`), each with its `address`, `name` or null, `objects`, the `bytes` of their own blocks, those of
-/// lists' items and dicts' keys (`more`), and of how many of them the size is `unknown`; and of how many objects the class is
-/// `unreadable`.
+/// Its `kind` is `heap`, `no lists`, or `no runtime` where no symbol tells where the runtime's record is. A heap has
+/// its `lists` (`youngest`, `middle`, `oldest`, `permanent`), each with how many `objects` it has and how it ends
+/// (`kind` `whole`, `torn`, `unreadable` or `cut`, the last three with an `address`); whether a collection runs or
+/// null; its first 2,048 `classes`, most bytes first, and how many more there are (`more_classes`); whether the tables
+/// of sets are counted (`sets`); and of how many objects the class is `unreadable`.
+///
+/// A class has its `address`, `name` or null, `objects`, the `bytes` of their own blocks, those of lists' items, dicts'
+/// keys and sets' tables (`more`), of how many of them the size is `unknown` and of how many that of these blocks
+/// (`unread`); the first ten have their three `largest` objects, each with its `address` and `bytes`, the others null.
 ///
 /// The keys of an object stand in the order of their bytes. The one error is want of memory.
 pub fn heaps_value(alloc: Global, heaps: &Heaps) -> Result<Value, AllocError>

@@ -6,6 +6,7 @@ use Rattle.py_fields.specs.declared.version.Version.{Version}
 use Rattle.py_process.specs.Facts.{Known, symbol_known}
 use Rattle.py_records.specs.declared.records.Records.{Records}
 use Rattle.py_fronts.specs.declared.salvaged.SalvagedInterpreter.{SalvagedInterpreter}
+use Rattle.py_census.specs.declared.places.SetClasses.{SetClasses}
 use Rattle.gc_lists.specs.declared.places.Home.{Home}
 use Rattle.gc_lists.specs.declared.places.Home.TheVariants.{Runtime, Interpreter}
 use Rattle.py_heap.specs.Heaps.{IsHeapAt}
@@ -44,13 +45,23 @@ AreHeapsBy k l p m is Interpreter NotDescribed = ⊥
 AreHeapsBy k l p m is Interpreter (OfRuntime told) = ⊥
 AreHeapsBy k l p m is Interpreter (OfInterpreters told) = EachTold (IsHeapOf l p (map address_of is) m) is told.items
 
+abbrev pub classes_by : (set frozenset : Option ℕ) → Option SetClasses
+classes_by None frozenset = None
+classes_by (Some set) None = None
+classes_by (Some set) (Some frozenset) = Some (record { set = set; frozenset = frozenset })
+
+-- the classes of sets of a process, where symbols tell both
+abbrev pub set_classes : Known → Option SetClasses
+set_classes k = classes_by (symbol_known k (codes "PySet_Type")) (symbol_known k (codes "PyFrozenSet_Type"))
+
 abbrev pub AreHeapsIf : Known → Layout → Option HeapPlaces → Memory → List SalvagedInterpreter → Heaps → Type 0
 AreHeapsIf k l None m is told = told ≡ NotDescribed
 AreHeapsIf k l (Some p) m is told = AreHeapsBy k l p m is p.lists.home told
 
--- the heaps of a process, by the places that the tables and the records have for its version
+-- the heaps of a process, by the places that the tables and the records have for its version, and by its classes of
+-- sets
 abbrev pub AreHeaps : Known → Version → Layout → Records → Memory → List SalvagedInterpreter → Heaps → Type 0
-AreHeaps k v l r m is told = AreHeapsIf k l (heap_places v l r) m is told
+AreHeaps k v l r m is told = AreHeapsIf k l (heap_places v l r (set_classes k)) m is told
 
 abbrev pub HeapIs : Bool → Known → Version → Layout → Records → Memory → List SalvagedInterpreter → Option Heaps
     → Type 0

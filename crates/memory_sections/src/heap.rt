@@ -3,19 +3,47 @@ ghost use Rattle.std.specs.Prelude.{◌≡◌, ◌∷◌, [], IfOk, map};
 ghost use Rattle.image_memory.specs.Backed.{regions_of};
 ghost use Rattle.process_memory.specs.Memory.{byte_at};
 ghost use Rattle.py_fields.specs.Sound.{IsSound};
-ghost use Rattle.py_process.specs.Facts.{known_of};
+ghost use Rattle.py_process.specs.Facts.{known_of, symbol_known};
 ghost use Rattle.py_heap.specs.Heaps.{IsHeapAt};
 ghost use Rattle.memory_sections.specs.Each.{EachTold};
 ghost use Rattle.memory_sections.specs.Heap.{AreHeaps, AreHeapsBy, HeapIs, IsHeapOf, IsRuntimeHeap, address_of};
+ghost use Rattle.memory_sections.specs.Heap.{classes_by, set_classes};
 
 use crate::waits::runtime_of;
 use core_stacks::Process;
 use gc_lists::Home;
 use missed_reads::{Missed, Misses};
+use py_census::SetClasses;
 use py_fronts::SalvagedInterpreter;
 use py_heap::{HeapPlaces, HeapTold, Heaps, InterpreterHeap, heap_places, read_heap};
 use py_records::Records;
 use std::alloc::{AllocError, Global};
+
+/// The classes of sets, by their symbols; none unless both are there.
+fn classes_by(set: Option<u64>, frozenset: Option<u64>) -> Option<SetClasses>
+    ensures { result ≡ classes_by set frozenset }
+{
+    let set = set?;
+    let frozenset = frozenset?;
+    Some(SetClasses { set, frozenset })
+}
+
+/// The address of a symbol of a process.
+fn symbol_of(process: &Process, name: &[u8]) -> Option<u64>
+    ensures { result ≡ symbol_known (known_of process.now.info) name.now }
+{
+    process.info.get_symbol(name).copied()
+}
+
+/// The classes of sets of a process, where symbols tell them.
+fn set_classes(process: &Process) -> Option<SetClasses>
+    ensures { result ≡ set_classes (known_of process.now.info) }
+{
+    classes_by(
+        symbol_of(process, b"PySet_Type"),
+        symbol_of(process, b"PyFrozenSet_Type"),
+    )
+}
 
 /// The addresses of some interpreters.
 fn addresses_of(alloc: Global, interpreters: &[SalvagedInterpreter]) -> Result<Vec<u64>, AllocError>
@@ -138,7 +166,8 @@ fn heaps_of(
     ensures { IfOk result (AreHeaps (known_of process.now.info) process.now.version process.now.layout records.now
         (byte_at (regions_of process.now.dump)) interpreters.now) }
 {
-    let places = heap_places(&process.version, &process.layout, records);
+    let sets = set_classes(process);
+    let places = heap_places(&process.version, &process.layout, records, sets);
     match &places {
         Some(places) => heaps_by(alloc, process, places, misses, interpreters),
         None => Ok(Heaps::NotDescribed),

@@ -24,7 +24,8 @@ use Rattle.py_census.specs.declared.census.CountedClass.{CountedClass}
 use Rattle.py_census.specs.declared.places.SizePlaces.{SizePlaces}
 use Rattle.py_census.specs.declared.sizes.ClassSize.{ClassSize}
 use Rattle.py_census.specs.declared.tallies.Tally.{Tally}
-use Rattle.py_census.specs.Censuses.{Counted, IsCensus, IsCounted, Precedes, capped, counted_by, counted_class}
+use Rattle.py_census.specs.Large.{capped}
+use Rattle.py_census.specs.Censuses.{Counted, IsCensus, IsCounted, Precedes, counted_by, counted_class}
 use Rattle.py_census.specs.Censuses.{counted_of, is_class, own}
 use Rattle.py_census.specs.Blocks.{more_at}
 use Rattle.py_census.specs.Sizes.{class_at, class_size_at, size_at}

@@ -1,3 +1,5 @@
+pub mod Leading
+pub mod Larger
 pub mod Tallying
 pub mod Members
 pub mod Orders

@@ -17,8 +17,11 @@ use Rattle.py_fields.specs.declared.layout.Layout.{Layout}
 use Rattle.py_census.specs.declared.places.SizePlaces.{SizePlaces}
 use Rattle.py_census.specs.declared.sizes.ClassSize.{ClassSize}
 use Rattle.py_census.specs.declared.tallies.Tally.{Tally}
-use Rattle.py_census.specs.Censuses.{capped, is_class, own, sizes, unknown}
+use Rattle.py_census.specs.Censuses.{is_class, own, sizes, unknown}
+use Rattle.py_census.specs.Large.{capped, large_of, largest, with_large}
+use Rattle.py_census.specs.declared.large.Largest.{Largest}
 use Rattle.py_census.specs.Blocks.{more_at}
+use Rattle.py_census.proofs.Larger.{larger}
 use Rattle.py_census.specs.Sizes.{class_at, class_size_at, size_at}
 use Rattle.py_census.specs.Tallies.{AreTallied, IsMet, tally_after, tally_by, tally_of, tally_or_new, tally_with}
 
@@ -63,10 +66,10 @@ own_more : (klass : ℕ → Option ℕ) (xs : List ℕ) (x class : ℕ) (b : Boo
 own_more klass xs x class b e = filter-append (λ object. is_class class (klass object)) xs (x ∷ [])
     ∙ ap (λ b. own klass xs class ++ cond b (x ∷ []) []) e
 
-abbrev made : Option ClassSize → (class objects bytes more unknown : ℕ) → Option Tally
-made s class o b w u = Some (record {
+abbrev made : Option ClassSize → (class objects bytes more unread unknown : ℕ) → Largest → Option Tally
+made s class o b w n u t = Some (record {
   sized = s;
-  counted = record { class = class; objects = o; bytes = b; more = w; unknown = u };
+  counted = record { class = class; objects = o; bytes = b; more = w; unread = n; unknown = u; largest = t };
 })
 
 -- a sum of what is known, and of one more
@@ -74,6 +77,12 @@ known_more : (f : ℕ → Option ℕ) (zs : List ℕ) (x : ℕ) → capped (capp
     (sizes f (zs ++ x ∷ []))
 known_more f zs x = capped_more (sizes f zs) (unwrap_or (f x) 0) ∙ ap capped (sym (sum_by_push (λ a. unwrap_or
     (f a) 0) zs x))
+
+-- and how many are not known
+unknown_more : (f : ℕ → Option ℕ) (zs : List ℕ) (x : ℕ) → capped (capped (unknown f zs) + cond (is_none (f x)) 1 0)
+    ≡ capped (unknown f (zs ++ x ∷ []))
+unknown_more f zs x = capped_more (unknown f zs) (cond (is_none (f x)) 1 0)
+    ∙ ap capped (sym (sum_by_push (λ a. cond (is_none (f a)) 1 0) zs x))
 
 one_more : (l : Layout) (p : SizePlaces) (m : Memory) (class x : ℕ) (ys : List ℕ)
     → Some (tally_with l p m x (tally_or_new (class_size_at l p m class) class
@@ -87,14 +96,21 @@ one_more l p m class x (y ∷ ys) =
     let zs = y ∷ ys in
     let all = zs ++ x ∷ [] in
     let o = capped_more (length zs) 1 ∙ ap capped (sym (length_push zs x)) in
-    let u = capped_more (unknown size zs) (cond (is_none (size x)) 1 0)
-    ∙ ap capped (sym (sum_by_push (λ a. cond (is_none (size a)) 1 0) zs x)) in
     let b' = capped (capped (sizes size zs) + unwrap_or (size x) 0) in
     let w' = capped (capped (sizes more zs) + unwrap_or (more x) 0) in
+    let n' = capped (capped (unknown more zs) + cond (is_none (more x)) 1 0) in
     let u' = capped (capped (unknown size zs) + cond (is_none (size x)) 1 0) in
-    ap (λ n. made s class n b' w' u') o ∙ ap (λ n. made s class (capped (length all)) n w' u') (known_more size zs x)
-    ∙ ap (λ n. made s class (capped (length all)) (capped (sizes size all)) n u') (known_more more zs x)
-    ∙ ap (λ n. made s class (capped (length all)) (capped (sizes size all)) (capped (sizes more all)) n) u
+    let count = capped (length all) in
+    let bytes = capped (sizes size all) in
+    let blocks = capped (sizes more all) in
+    let t' = with_large (largest size more zs) (large_of x (size x) (more x)) in
+    let lost = capped (unknown more all) in
+    ap (λ k. made s class k b' w' n' u' t') o
+    ∙ ap (λ k. made s class count k w' n' u' t') (known_more size zs x)
+    ∙ ap (λ k. made s class count bytes k n' u' t') (known_more more zs x)
+    ∙ ap (λ k. made s class count bytes blocks k u' t') (unknown_more more zs x)
+    ∙ ap (λ k. made s class count bytes blocks lost k t') (unknown_more size zs x)
+    ∙ ap (λ k. made s class count bytes blocks lost (capped (unknown size all)) k) (larger size more zs x)
 
 module _ (l : Layout) (p : SizePlaces) (m : Memory) (xs : List ℕ) (x : ℕ) where
   -- an object of another class

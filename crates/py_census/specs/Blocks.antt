@@ -1,7 +1,10 @@
 -- How many bytes an object has in blocks of their own: `list___sizeof___impl` of Objects/listobject.c, and
 -- `_PyDict_KeysSize` and `USABLE_FRACTION` of Objects/dictobject.c, by which a dict's keys count where their number of
--- owners is 1 (`_PyDict_SizeOf`). Other blocks are not counted, by this project's rule.
-use Rattle.std.specs.Prelude.{ℕ, ◌+◌, ◌*◌, ◌/◌, ◌%◌, ◌^◌, nat_eq, nat_lt, ◌&&◌, Bool, if◌then◌else◌, Option, Some, None}
+-- owners is 1 (`_PyDict_SizeOf`), and `set_sizeof` of Objects/setobject.c (`set___sizeof___impl` from 3.13 on), by
+-- which a set's table counts where it isn't the small one of the set's own block. Other blocks are not counted, by this
+-- project's rule.
+use Rattle.std.specs.Prelude.{ℕ, ◌+◌, ◌*◌, ◌/◌, ◌%◌, ◌^◌, nat_eq, nat_lt, ◌&&◌, Bool, true, false, if◌then◌else◌}
+use Rattle.std.specs.Prelude.{Option, Some, None}
 use Rattle.process_memory.specs.Memory.{Memory, word_at}
 use Rattle.py_fields.specs.declared.layout.Layout.{Layout}
 use Rattle.py_builtins.specs.Texts.{bit_is_set}
@@ -9,7 +12,8 @@ use Rattle.py_census.specs.declared.places.KeysForm.{KeysForm}
 use Rattle.py_census.specs.declared.places.KeysForm.TheVariants.{Slots, Powers}
 use Rattle.py_census.specs.declared.places.SizePlaces.{SizePlaces}
 use Rattle.py_census.specs.declared.sizes.ClassSize.{ClassSize}
-use Rattle.py_census.specs.Sizes.{class_size_at, fits, known}
+use Rattle.py_census.specs.Bases.{known}
+use Rattle.py_census.specs.Sizes.{class_size_at, fits}
 
 -- `Py_TPFLAGS_LIST_SUBCLASS`, `Py_TPFLAGS_DICT_SUBCLASS`
 abbrev pub is_list : (flags : ℕ) → Bool
@@ -70,15 +74,41 @@ keys_at p m (Some keys) = own_bytes p.keys_form (known (word_at m (keys + 0))) (
 abbrev pub dict_at : SizePlaces → Memory → (object : ℕ) → Option ℕ
 dict_at p m object = keys_at p m (known (word_at m (object + p.keys)))
 
+-- ---- sets
+
+-- entries of a table, one more than the mask, each of a key and a hash
+abbrev pub entries_bytes : (mask : ℕ) → Option ℕ
+entries_bytes mask = fits ((mask + 1) * 16)
+
+-- whether a table is the small one of a set's own block
+abbrev pub is_small : (object own table : ℕ) → Bool
+is_small object own table = nat_eq table (object + own)
+
+-- the table of a set, where it isn't that one
+abbrev pub table_by : (object own : ℕ) → (table mask : Option ℕ) → Option ℕ
+table_by object own None mask = None
+table_by object own (Some table) None = None
+table_by object own (Some table) (Some mask) = if is_small object own table then Some 0 else entries_bytes mask
+
+abbrev pub table_at : SizePlaces → Memory → (object : ℕ) → Option ℕ
+table_at p m object = table_by object p.own_table (known (word_at m (object + p.table)))
+    (known (word_at m (object + p.mask)))
+
+-- the block of an object of a class that is one of sets, or is none; none where that is not known
+abbrev pub set_at : SizePlaces → Memory → (of_sets : Option Bool) → (object : ℕ) → Option ℕ
+set_at p m None object = None
+set_at p m (Some false) object = Some 0
+set_at p m (Some true) object = table_at p m object
+
 -- ---- objects
 
-abbrev pub block_at : SizePlaces → Memory → (flags object : ℕ) → Option ℕ
-block_at p m flags object =
-    if is_list flags then room_at p m object else (if is_dict flags then dict_at p m object else Some 0)
+abbrev pub block_at : SizePlaces → Memory → ClassSize → (object : ℕ) → Option ℕ
+block_at p m class object = if is_list class.flags then room_at p m object
+    else (if is_dict class.flags then dict_at p m object else set_at p m class.of_sets object)
 
 abbrev pub more_by : SizePlaces → Memory → Option ClassSize → (object : ℕ) → Option ℕ
 more_by p m None object = None
-more_by p m (Some class) object = block_at p m class.flags object
+more_by p m (Some class) object = block_at p m class object
 
 -- how many bytes an object of a class has in blocks of their own, where that is known
 abbrev pub more_at : Layout → SizePlaces → Memory → (class object : ℕ) → Option ℕ

@@ -1,9 +1,10 @@
 -- What a census says of some objects, each of which has a class and a size or none: this project's rule.
-use Rattle.std.specs.Prelude.{◌≡◌, ℕ, ◌-◌, ◌<◌, ◌^◌, ◌⊎◌, min, nat_eq, Bool, false, List}
+use Rattle.std.specs.Prelude.{◌≡◌, ℕ, ◌<◌, ◌⊎◌, nat_eq, Bool, false, List}
 use Rattle.std.specs.Prelude.{length, map, filter, All, AllPairs, Contains, count_by, sum_by, Option, Some, None}
 use Rattle.std.specs.Prelude.{is_none, unwrap_or}
 use Rattle.py_census.specs.declared.census.Census.{Census}
 use Rattle.py_census.specs.declared.census.CountedClass.{CountedClass}
+use Rattle.py_census.specs.Large.{capped, largest}
 
 -- the classes of objects, and of how many objects none is known
 pub record Counted : Type 0 where
@@ -12,10 +13,6 @@ pub record Counted : Type 0 where
 
 abbrev pub counted_of : Census → Counted
 counted_of census = record { classes = census.classes.items; unreadable = census.unreadable }
-
--- a number that 64 bits have no room for is the greatest that they have room for
-abbrev pub capped : ℕ → ℕ
-capped n = min n (2 ^ 64 - 1)
 
 abbrev pub is_class : (class : ℕ) → Option ℕ → Bool
 is_class class None = false
@@ -40,7 +37,9 @@ counted_by size more class objects = record {
   objects = capped (length objects);
   bytes = capped (sizes size objects);
   more = capped (sizes more objects);
+  unread = capped (unknown more objects);
   unknown = capped (unknown size objects);
+  largest = largest size more objects;
 }
 
 -- what is counted of a class among some objects

@@ -7,22 +7,17 @@
 -- (27) and `Py_TPFLAGS_TYPE_SUBCLASS` (31); that none else has one is this project's rule. A size of 2^64 bytes or more
 -- is none.
 use Rattle.std.specs.Prelude.{ℕ, ◌+◌, ◌*◌, ◌^◌, nat_lt, ◌||◌, Bool, false, if◌then◌else◌, Option, Some, None}
-use Rattle.std.specs.Prelude.{Ok, Err}
-use Rattle.process_memory.specs.Memory.{Found, Memory, word_at}
+use Rattle.process_memory.specs.Memory.{Memory, word_at}
 use Rattle.py_fields.specs.declared.layout.Layout.{Layout}
 use Rattle.py_fields.specs.declared.layout.Integers.{Integers}
 use Rattle.py_fields.specs.declared.layout.Integers.TheVariants.{Signed, Tagged}
 use Rattle.py_builtins.specs.Integers.{digits_of}
 use Rattle.py_builtins.specs.Texts.{bit_is_set}
+use Rattle.py_census.specs.Bases.{known, set_class_at}
 use Rattle.py_census.specs.declared.places.SizePlaces.{SizePlaces}
 use Rattle.py_census.specs.declared.places.WordsBefore.{WordsBefore}
 use Rattle.py_census.specs.declared.places.WordsBefore.TheVariants.{Never, Dict, DictOrReferences}
 use Rattle.py_census.specs.declared.sizes.ClassSize.{ClassSize}
-
--- what is found, where it is
-abbrev pub known : {T : Type 0} → Found T → Option T
-known (Ok x) = Some x
-known (Err f) = None
 
 -- the address of the class of an object, where that is in memory
 abbrev pub class_at : Layout → Memory → ℕ → Option ℕ
@@ -30,16 +25,16 @@ class_at l m object = known (word_at m (object + l.object.klass))
 
 -- ---- what a class says of its objects
 
-abbrev pub class_size_by : (basic item flags : Option ℕ) → Option ClassSize
-class_size_by None item flags = None
-class_size_by (Some b) None flags = None
-class_size_by (Some b) (Some i) None = None
-class_size_by (Some b) (Some i) (Some f) = Some (record { basic = b; item = i; flags = f })
+abbrev pub class_size_by : (basic item flags : Option ℕ) → (of_sets : Option Bool) → Option ClassSize
+class_size_by None item flags sets = None
+class_size_by (Some b) None flags sets = None
+class_size_by (Some b) (Some i) None sets = None
+class_size_by (Some b) (Some i) (Some f) sets = Some (record { basic = b; item = i; flags = f; of_sets = sets })
 
--- the sizes and flags of a class, where all of them are in memory
+-- the sizes and flags of a class, where all of them are in memory, and whether it is one of sets
 abbrev pub class_size_at : Layout → SizePlaces → Memory → ℕ → Option ClassSize
 class_size_at l p m class = class_size_by (known (word_at m (class + p.basic_size)))
-    (known (word_at m (class + p.item_size))) (known (word_at m (class + l.klass.flags)))
+    (known (word_at m (class + p.item_size))) (known (word_at m (class + l.klass.flags))) (set_class_at p m class)
 
 abbrev pub is_integer : (flags : ℕ) → Bool
 is_integer flags = bit_is_set flags 24

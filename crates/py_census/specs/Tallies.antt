@@ -9,7 +9,8 @@ use Rattle.py_census.specs.declared.census.CountedClass.{CountedClass}
 use Rattle.py_census.specs.declared.places.SizePlaces.{SizePlaces}
 use Rattle.py_census.specs.declared.sizes.ClassSize.{ClassSize}
 use Rattle.py_census.specs.declared.tallies.Tally.{Tally}
-use Rattle.py_census.specs.Censuses.{capped, counted_by, own, unknown}
+use Rattle.py_census.specs.Censuses.{counted_by, own, unknown}
+use Rattle.py_census.specs.Large.{capped, large_of, none_large, with_large}
 use Rattle.py_census.specs.Blocks.{more_at, more_by}
 use Rattle.py_census.specs.Sizes.{class_at, class_size_at, size_at, size_by}
 
@@ -32,17 +33,27 @@ pub record AreTallied (l : Layout) (p : SizePlaces) (m : Memory) (objects : List
 
 -- ---- one more object
 
-abbrev pub with_object : CountedClass → (size more : Option ℕ) → CountedClass
-with_object c size more = record {
+abbrev pub with_object : CountedClass → (object : ℕ) → (size more : Option ℕ) → CountedClass
+with_object c object size more = record {
   class = c.class;
   objects = capped (c.objects + 1);
   bytes = capped (c.bytes + unwrap_or size 0);
   more = capped (c.more + unwrap_or more 0);
+  unread = capped (c.unread + (if is_none more then 1 else 0));
   unknown = capped (c.unknown + (if is_none size then 1 else 0));
+  largest = with_large c.largest (large_of object size more);
 }
 
 abbrev pub no_objects : (class : ℕ) → CountedClass
-no_objects class = record { class = class; objects = 0; bytes = 0; more = 0; unknown = 0 }
+no_objects class = record {
+  class = class;
+  objects = 0;
+  bytes = 0;
+  more = 0;
+  unread = 0;
+  unknown = 0;
+  largest = none_large;
+}
 
 -- what is kept of a class; of one that is met first, what its record says
 abbrev pub tally_or_new : (sized : Option ClassSize) → (class : ℕ) → Option Tally → Tally
@@ -52,7 +63,7 @@ tally_or_new sized class (Some tally) = tally
 abbrev pub tally_with : Layout → SizePlaces → Memory → (object : ℕ) → Tally → Tally
 tally_with l p m object t = record {
   sized = t.sized;
-  counted = with_object t.counted (size_by l p m t.sized object) (more_by p m t.sized object);
+  counted = with_object t.counted object (size_by l p m t.sized object) (more_by p m t.sized object);
 }
 
 -- what is kept of a class once one more object was met, whose class is given

@@ -3,7 +3,7 @@ ghost use Rattle.std.specs.Prelude.{◌≡◌, ◌+◌, ◌*◌, ◌/◌, ◌<�
 ghost use Rattle.process_memory.specs.Seen.{Reading};
 ghost use Rattle.py_census.specs.Blocks.{block_at, dict_at, entry_size, index_width, is_dict, is_list, keys_at};
 ghost use Rattle.py_census.specs.Blocks.{keys_bytes, more_by, own_bytes, powered, powers_bytes, room_at, room_of};
-ghost use Rattle.py_census.specs.Blocks.{slots_bytes};
+ghost use Rattle.py_census.specs.Blocks.{entries_bytes, is_small, set_at, slots_bytes, table_at, table_by};
 ghost use Rattle.py_census.specs.Sizes.{fits};
 
 use crate::sizes::{ClassSize, read_word};
@@ -171,23 +171,81 @@ fn read_dict<P: ProcessMemory>(
     }
 }
 
-/// How many bytes an object of a class of these flags has in blocks of their own. At most 3 reads.
+/// How many bytes the entries of a table have whose mask is given; none where 64 bits have no room for them.
+fn entries_bytes(mask: u64) -> Option<u64>
+    ensures { result ≡ entries_bytes mask }
+{
+    let entries = mask.checked_add(1)?;
+    entries.checked_mul(16)
+}
+
+/// Whether a table is the small one of a set's own block.
+fn is_small(object: u64, own: u64, table: u64) -> bool
+    ensures { result ≡ is_small object own table }
+{
+    table >= object && table - object == own
+}
+
+/// How many bytes the table of a set has, where it isn't that one.
+fn table_by(object: u64, own: u64, table: Option<u64>, mask: Option<u64>) -> Option<u64>
+    ensures { result ≡ table_by object own table mask }
+{
+    let table = table?;
+    let mask = mask?;
+    if is_small(object, own, table) {
+        return Some(0);
+    }
+    entries_bytes(mask)
+}
+
+/// How many bytes the table of a set has, where it isn't the one of its own block. At most 2 reads.
+fn read_table<P: ProcessMemory>(
+    process: &mut P,
+    places: &SizePlaces,
+    object: u64,
+) -> Result<Option<u64>, AllocError>
+    ensures { Reading 2 (P.seen process.old) (P.seen process.new)
+        (λ m. IfOk result (λ bytes. bytes ≡ table_at places.now m object)) }
+{
+    let table = read_word(process, object, places.table)?;
+    let mask = read_word(process, object, places.mask)?;
+    Ok(table_by(object, places.own_table, table, mask))
+}
+
+/// The same of an object of a class that is one of sets, or is none. At most 2 reads.
+fn read_set<P: ProcessMemory>(
+    process: &mut P,
+    places: &SizePlaces,
+    of_sets: Option<bool>,
+    object: u64,
+) -> Result<Option<u64>, AllocError>
+    ensures { Reading 2 (P.seen process.old) (P.seen process.new)
+        (λ m. IfOk result (λ bytes. bytes ≡ set_at places.now m of_sets object)) }
+{
+    match of_sets {
+        None => Ok(None),
+        Some(false) => Ok(Some(0)),
+        Some(true) => read_table(process, places, object),
+    }
+}
+
+/// How many bytes an object of a class has in blocks of their own. At most 3 reads.
 fn read_block<P: ProcessMemory>(
     process: &mut P,
     places: &SizePlaces,
-    flags: u64,
+    class: ClassSize,
     object: u64,
 ) -> Result<Option<u64>, AllocError>
     ensures { Reading 3 (P.seen process.old) (P.seen process.new)
-        (λ m. IfOk result (λ bytes. bytes ≡ block_at places.now m flags object)) }
+        (λ m. IfOk result (λ bytes. bytes ≡ block_at places.now m class object)) }
 {
-    if is_list(flags) {
+    if is_list(class.flags) {
         return read_room(process, places, object);
     }
-    if is_dict(flags) {
+    if is_dict(class.flags) {
         return read_dict(process, places, object);
     }
-    Ok(Some(0))
+    read_set(process, places, class.of_sets, object)
 }
 
 /// How many bytes an object of a class has in blocks of their own; none where that is not known. At most 3 reads.
@@ -202,6 +260,6 @@ pub(crate) fn read_more<P: ProcessMemory>(
 {
     match class {
         None => Ok(None),
-        Some(class) => read_block(process, places, class.flags, object),
+        Some(class) => read_block(process, places, class, object),
     }
 }

@@ -7,8 +7,8 @@ ghost use Rattle.py_census.specs.Censuses.{Counted, IsCensus, Precedes, counted_
 ghost use Rattle.py_census.specs.Blocks.{more_at};
 ghost use Rattle.py_census.specs.Sizes.{class_at, size_at};
 
-use crate::SizePlaces;
 use crate::tallies::{Tally, meet_objects};
+use crate::{Largest, SizePlaces};
 use process_memory::ProcessMemory;
 use py_fields::Layout;
 use std::alloc::{AllocError, Global};
@@ -24,12 +24,17 @@ pub struct CountedClass {
     /// How many bytes their own blocks have in all, of those whose size is known, without the values of attributes that
     /// stand in them from 3.13 on.
     pub bytes: u64,
-    /// How many bytes they have beside these in blocks of their own, as far as that is known: of lists the items that
-    /// they have room for, of dicts the keys that no other object has.
+    /// How many bytes they have beside these in blocks of their own, of those of which that is known: of lists the
+    /// items that they have room for, of dicts the keys that no other object has, of sets the tables.
     pub more: u64,
+    /// Of how many of them that is not known: a word that says it, or what their class says, is not in memory, or it is
+    /// 2^64 bytes or more.
+    pub unread: u64,
     /// Of how many of them the size is not known: what their class says of it, or their count of items, is not in
     /// memory, or it is 2^64 bytes or more.
     pub unknown: u64,
+    /// The three largest of them.
+    pub largest: Largest,
 }
 
 /// What is counted of objects.
@@ -66,7 +71,7 @@ fn put_in_order(classes: &mut Vec<CountedClass>) -> Result<(), AllocError>
     classes.sort_by_key(|class| u64::MAX - class.bytes)
 }
 
-/// What is counted of some objects. At most 8 reads of each.
+/// What is counted of some objects. At most 24 reads of each.
 fn counted<P: ProcessMemory>(
     alloc: Global,
     process: &mut P,
@@ -74,7 +79,7 @@ fn counted<P: ProcessMemory>(
     places: &SizePlaces,
     objects: &[u64],
 ) -> Result<Census, AllocError>
-    ensures { Reading (8 * length objects.now) (P.seen process.old) (P.seen process.new)
+    ensures { Reading (24 * length objects.now) (P.seen process.old) (P.seen process.new)
         (λ m. IfOk result (λ census. IsCensus (class_at layout.now m) (size_at layout.now places.now m)
         (more_at layout.now places.now m) objects.now (counted_of census))) }
 {
@@ -93,7 +98,7 @@ fn counted<P: ProcessMemory>(
 /// most bytes first, then by address. An address that stands twice counts twice.
 ///
 /// There is one such answer alone. What is not in memory is told as not known. The one error is want of memory. At most
-/// 8 reads of each object.
+/// 24 reads of each object.
 pub fn count_objects<P: ProcessMemory>(
     alloc: Global,
     process: &mut P,
@@ -101,10 +106,10 @@ pub fn count_objects<P: ProcessMemory>(
     places: &SizePlaces,
     objects: &[u64],
 ) -> Result<Census, AllocError>
-    ensures right { Reading (8 * length objects.now) (P.seen process.old) (P.seen process.new)
+    ensures right { Reading (24 * length objects.now) (P.seen process.old) (P.seen process.new)
         (λ m. IfOk result (λ census. IsCensus (class_at layout.now m) (size_at layout.now places.now m)
         (more_at layout.now places.now m) objects.now (counted_of census))) }
-    ensures only { Reading (8 * length objects.now) (P.seen process.old) (P.seen process.new)
+    ensures only { Reading (24 * length objects.now) (P.seen process.old) (P.seen process.new)
         (λ m. (other : Counted) → IsCensus (class_at layout.now m) (size_at layout.now places.now m)
         (more_at layout.now places.now m) objects.now other
         → IfOk result (λ census. counted_of census ≡ other)) }

@@ -21,6 +21,15 @@ pub enum KeysForm {
     Powers,
 }
 
+/// The classes of sets, by their addresses.
+#[derive(Debug, Clone, Copy, PartialEq, Eq)]
+pub struct SetClasses {
+    /// `set`.
+    pub set: u64,
+    /// `frozenset`.
+    pub frozenset: u64,
+}
+
 /// Where the sizes of objects stand, in bytes from the start of an object or of a class on, and what stands before
 /// objects.
 #[derive(Debug, Clone, Copy, PartialEq, Eq)]
@@ -33,6 +42,16 @@ pub struct SizePlaces {
     pub keys: u64,
     /// How these say how many bytes their block has.
     pub keys_form: KeysForm,
+    /// In a set: how many entries its table has, less one.
+    pub mask: u64,
+    /// In a set: the address of its table.
+    pub table: u64,
+    /// In a set: where the small table stands that is in its own block.
+    pub own_table: u64,
+    /// The classes of sets, where they are known.
+    pub sets: Option<SetClasses>,
+    /// In a class: the address of the one that it derives from first.
+    pub base: u64,
     /// In a class: how many bytes an object of it has without its items.
     pub basic_size: u64,
     /// In a class: how many bytes an item has.

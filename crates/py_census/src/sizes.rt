@@ -3,10 +3,11 @@ ghost use Rattle.std.specs.Prelude.{◌≡◌, ◌+◌, ◌*◌, ◌≤◌, IfOk
 ghost use Rattle.process_memory.specs.Memory.{word_at};
 ghost use Rattle.process_memory.specs.Seen.{Reading};
 ghost use Rattle.py_census.specs.Sizes.{class_at, class_size_at, class_size_by, digits, fits, has_count, has_words};
-ghost use Rattle.py_census.specs.Sizes.{head_before, is_integer, items_at, items_by, items_if, known, size_by};
-ghost use Rattle.py_census.specs.Sizes.{size_with};
+ghost use Rattle.py_census.specs.Sizes.{head_before, is_integer, items_at, items_by, items_if, size_by, size_with};
 ghost use Rattle.py_census.specs.Sizes.{words_before};
+ghost use Rattle.py_census.specs.Bases.{known};
 
+use crate::bases::read_set_class;
 use crate::{SizePlaces, WordsBefore};
 use process_memory::{ProcessMemory, ReadFault, word_past};
 use py_fields::{Integers, Layout};
@@ -42,6 +43,8 @@ pub(crate) struct ClassSize {
     pub item: u64,
     /// Its flags.
     pub flags: u64,
+    /// Whether it is one of sets; none where that is not known.
+    pub of_sets: Option<bool>,
 }
 
 /// The word so far behind an address; none where it is not in memory. At most one read.
@@ -73,29 +76,40 @@ pub(crate) fn read_class<P: ProcessMemory>(
 }
 
 /// What a class says, where all of it is known.
-fn class_size_by(basic: Option<u64>, item: Option<u64>, flags: Option<u64>) -> Option<ClassSize>
-    ensures { result ≡ class_size_by basic item flags }
+fn class_size_by(
+    basic: Option<u64>,
+    item: Option<u64>,
+    flags: Option<u64>,
+    of_sets: Option<bool>,
+) -> Option<ClassSize>
+    ensures { result ≡ class_size_by basic item flags of_sets }
 {
     let basic = basic?;
     let item = item?;
     let flags = flags?;
-    Some(ClassSize { basic, item, flags })
+    Some(ClassSize {
+        basic,
+        item,
+        flags,
+        of_sets,
+    })
 }
 
-/// What a class says of the size of its objects; none where a word of it is not in memory. At most 3 reads.
+/// What a class says of the size of its objects; none where a word of it is not in memory. At most 19 reads.
 pub(crate) fn read_class_size<P: ProcessMemory>(
     process: &mut P,
     layout: &Layout,
     places: &SizePlaces,
     class: u64,
 ) -> Result<Option<ClassSize>, AllocError>
-    ensures { Reading 3 (P.seen process.old) (P.seen process.new)
+    ensures { Reading 19 (P.seen process.old) (P.seen process.new)
         (λ m. IfOk result (λ sized. sized ≡ class_size_at layout.now places.now m class)) }
 {
     let basic = read_word(process, class, places.basic_size)?;
     let item = read_word(process, class, places.item_size)?;
     let flags = read_word(process, class, layout.klass.flags as u64)?;
-    Ok(class_size_by(basic, item, flags))
+    let of_sets = read_set_class(process, places, class)?;
+    Ok(class_size_by(basic, item, flags, of_sets))
 }
 
 /// Whether the objects of a class of these flags are integers.

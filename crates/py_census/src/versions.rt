@@ -2,17 +2,27 @@
 ghost use Rattle.std.specs.Prelude.{◌≡◌};
 ghost use Rattle.py_census.specs.Versions.{places_of_3, places_with, size_places};
 
-use crate::{KeysForm, SizePlaces, WordsBefore};
+use crate::{KeysForm, SetClasses, SizePlaces, WordsBefore};
 
 /// With a head of the collector of so many bytes, and two words before some objects, and dicts of this form.
-fn places_with(head_size: u64, words_before: WordsBefore, keys_form: KeysForm) -> SizePlaces
-    ensures { result ≡ places_with head_size words_before keys_form }
+fn places_with(
+    sets: Option<SetClasses>,
+    head_size: u64,
+    words_before: WordsBefore,
+    keys_form: KeysForm,
+) -> SizePlaces
+    ensures { result ≡ places_with sets head_size words_before keys_form }
 {
     SizePlaces {
         count: 16,
         allocated: 32,
         keys: 32,
         keys_form,
+        mask: 32,
+        table: 40,
+        own_table: 64,
+        sets,
+        base: 256,
         basic_size: 32,
         item_size: 40,
         head_size,
@@ -21,22 +31,26 @@ fn places_with(head_size: u64, words_before: WordsBefore, keys_form: KeysForm) -
 }
 
 /// Of a minor version of 3.
-fn places_of_3(minor: u32) -> Option<SizePlaces>
-    ensures { result ≡ places_of_3 minor }
+fn places_of_3(sets: Option<SetClasses>, minor: u32) -> Option<SizePlaces>
+    ensures { result ≡ places_of_3 sets minor }
 {
     match minor {
-        7 => Some(places_with(32, WordsBefore::Never, KeysForm::Slots)),
-        8 | 9 | 10 => Some(places_with(16, WordsBefore::Never, KeysForm::Slots)),
-        11 => Some(places_with(16, WordsBefore::Dict, KeysForm::Powers)),
-        12 | 13 => Some(places_with(16, WordsBefore::DictOrReferences, KeysForm::Powers)),
+        7 => Some(places_with(sets, 32, WordsBefore::Never, KeysForm::Slots)),
+        8 | 9 | 10 => Some(places_with(sets, 16, WordsBefore::Never, KeysForm::Slots)),
+        11 => Some(places_with(sets, 16, WordsBefore::Dict, KeysForm::Powers)),
+        12 | 13 => Some(places_with(sets, 16, WordsBefore::DictOrReferences, KeysForm::Powers)),
         _ => None,
     }
 }
 
-/// Where the sizes of objects of a version stand: of 3.7 to 3.13, as this crate's table has them; none of any other
-/// version.
-pub fn size_places(major: u32, minor: u32) -> Option<SizePlaces>
-    ensures { result ≡ size_places major minor }
+/// Where the sizes of objects of a version stand, by the classes of sets: of 3.7 to 3.13, as this crate's table has
+/// them; none of any other version.
+pub fn size_places(sets: Option<SetClasses>, major: u32, minor: u32) -> Option<SizePlaces>
+    ensures { result ≡ size_places sets major minor }
 {
-    if major == 3 { places_of_3(minor) } else { None }
+    if major == 3 {
+        places_of_3(sets, minor)
+    } else {
+        None
+    }
 }

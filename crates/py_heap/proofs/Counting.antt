@@ -1,5 +1,5 @@
 -- How many objects lists have.
-use Rattle.std.proofs.Common.{◌≡◌, ℕ, ◌≤◌, ◌+◌, ◌*◌, List, [], ◌++◌, length, map, Option, Some, None, arith}
+use Rattle.std.proofs.Common.{◌≡◌, ℕ, ◌≤◌, ◌*◌, List, ◌++◌, length, Option, Some, None, arith}
 use Rattle.std.proofs.lemmas.List.{length-append, length-map}
 use Rattle.process_memory.specs.Memory.{Memory}
 use Rattle.gc_lists.specs.declared.lists.Lists.{Lists}

@@ -1,5 +1,6 @@
 -- What is read of classes.
-use Rattle.std.proofs.Common.{◌≡◌, ℕ, List, [], ◌∷◌, map, refl, ap, sym, Option}
+use Rattle.std.proofs.Common.{◌≡◌, List, [], ◌∷◌, map, refl, ap, Option}
+use Rattle.py_census.specs.Large.{none_large}
 use Rattle.py_census.specs.declared.census.CountedClass.{CountedClass}
 use Rattle.py_exceptions.specs.declared.name.ClassName.{ClassName}
 use Rattle.py_heap.specs.declared.heap.HeapClass.{HeapClass}
@@ -14,4 +15,12 @@ with_name c a b h = ap (λ n. record { counted = c; name = n }) h
 
 -- what stands where no class does
 abbrev pub none_counted : CountedClass
-none_counted = record { class = 0; objects = 0; bytes = 0; more = 0; unknown = 0 }
+none_counted = record {
+  class = 0;
+  objects = 0;
+  bytes = 0;
+  more = 0;
+  unread = 0;
+  unknown = 0;
+  largest = none_large;
+}

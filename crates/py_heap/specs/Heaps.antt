@@ -1,5 +1,5 @@
 -- What a heap holds: the objects of the collector's lists, by class.
-use Rattle.std.specs.Prelude.{◌≡◌, ℕ, ◌+◌, ◌*◌, List, length, Option, Some, None, Result, Ok, Err}
+use Rattle.std.specs.Prelude.{◌≡◌, ℕ, ◌+◌, ◌*◌, List, length, is_some, Result, Ok, Err}
 use Rattle.process_memory.specs.Memory.{Memory}
 use Rattle.py_fields.specs.declared.layout.Layout.{Layout}
 use Rattle.gc_lists.specs.Lists.{Four, IsTold, Told}
@@ -21,14 +21,15 @@ use Rattle.py_heap.specs.declared.places.HeapPlaces.{HeapPlaces}
 abbrev pub generation_of : Listing → Generation
 generation_of list = record { objects = length list.members; end = list.end }
 
--- What is told of lists: how many objects each has and how it ends, what is counted of the objects of all of them, and
--- the names of the first classes.
+-- What is told of lists: how many objects each has and how it ends, whether tables of sets are counted, what is counted
+-- of the objects of all of them, and the names of the first classes.
 pub record IsHeap (l : Layout) (p : HeapPlaces) (m : Memory) (lists : Four) (heap : Heap) : Type 0 where
   pub collecting : heap.collecting ≡ lists.collecting
   pub youngest : heap.youngest ≡ generation_of lists.youngest
   pub middle : heap.middle ≡ generation_of lists.middle
   pub oldest : heap.oldest ≡ generation_of lists.oldest
   pub permanent : heap.permanent ≡ generation_of lists.permanent
+  pub sets : heap.sets ≡ is_some p.sizes.sets
   pub counted : Counted
   pub census : IsCensus (class_at l m) (size_at l p.sizes m) (more_at l p.sizes m)
       (objects_of p.lists.head_size lists) counted
@@ -54,7 +55,7 @@ abbrev pub objects_told : HeapTold → ℕ
 objects_told (told.NoLists head) = 0
 objects_told (told.Counted h) = h.youngest.objects + h.middle.objects + h.oldest.objects + h.permanent.objects
 
--- nine reads of each object, those of names, and 21 more
+-- 25 reads of each object, those of names, and 21 more
 abbrev pub heap_reads : {E : Type 0} → Result HeapTold E → ℕ
-heap_reads (Ok told) = 9 * objects_told told + 21 + names_reads
-heap_reads (Err e) = 9 * (4 * most_members) + 21 + names_reads
+heap_reads (Ok told) = 25 * objects_told told + 21 + names_reads
+heap_reads (Err e) = 25 * (4 * most_members) + 21 + names_reads

@@ -1,8 +1,9 @@
--- Where all that a heap's census reads stands, by version, layout and records.
+-- Where all that a heap's census reads stands, by version, layout, records and the classes of sets.
 use Rattle.std.specs.Prelude.{ℕ, nat_lt, if◌then◌else◌, Option, Some, None}
 use Rattle.gc_lists.specs.Versions.{list_places}
 use Rattle.gc_lists.specs.declared.places.ListPlaces.{ListPlaces}
 use Rattle.py_census.specs.Versions.{size_places}
+use Rattle.py_census.specs.declared.places.SetClasses.{SetClasses}
 use Rattle.py_census.specs.declared.places.SizePlaces.{SizePlaces}
 use Rattle.py_exceptions.specs.Described.{class_of}
 use Rattle.py_fields.specs.declared.layout.Layout.{Layout}
@@ -22,10 +23,10 @@ places_by l _ _ _ _ = None
 abbrev pub small : ℕ → Option ℕ
 small n = if nat_lt n 65536 then Some n else None
 
-abbrev pub places_of : Layout → Records → (major minor : Option ℕ) → Option HeapPlaces
-places_of l r (Some major) (Some minor) =
-    places_by l (list_places major minor) (size_places major minor) r.types.klass r.types.heap_type
-places_of l r _ _ = None
+abbrev pub places_of : Layout → Records → Option SetClasses → (major minor : Option ℕ) → Option HeapPlaces
+places_of l r sets (Some major) (Some minor) =
+    places_by l (list_places major minor) (size_places sets major minor) r.types.klass r.types.heap_type
+places_of l r sets _ _ = None
 
-abbrev pub heap_places : Version → Layout → Records → Option HeapPlaces
-heap_places v l r = places_of l r (small v.major) (small v.minor)
+abbrev pub heap_places : Version → Layout → Records → Option SetClasses → Option HeapPlaces
+heap_places v l r sets = places_of l r sets (small v.major) (small v.minor)

@@ -17,7 +17,7 @@ pub struct Generation {
 #[derive(Debug, Drop)]
 pub struct HeapClass {
     /// Its address, how many objects there are of it, how many bytes their own blocks have, and how many the other
-    /// blocks of lists and dicts.
+    /// blocks of lists, dicts and sets.
     pub counted: CountedClass,
     /// Its name; none where it can't be read, and of classes behind the first 2,048.
     pub name: Option<ClassName>,
@@ -37,6 +37,8 @@ pub struct Heap {
     pub oldest: Generation,
     /// The permanent generation, of objects that are frozen.
     pub permanent: Generation,
+    /// Whether the tables of sets are counted: the classes of sets are known.
+    pub sets: bool,
     /// The classes of the objects of all of them, each once: most bytes first, then by address.
     pub classes: Vec<HeapClass>,
     /// Of how many objects the class is not known, since the word that names it is not in memory.

@@ -3,7 +3,7 @@ ghost use Rattle.std.specs.Prelude.{◌≡◌};
 ghost use Rattle.py_heap.specs.Places.{heap_places, small};
 
 use gc_lists::{ListPlaces, list_places};
-use py_census::{SizePlaces, size_places};
+use py_census::{SetClasses, SizePlaces, size_places};
 use py_exceptions::{ClassPlaces, class_of};
 use py_fields::{Layout, Version};
 use py_records::Records;
@@ -30,15 +30,20 @@ fn small(number: u64) -> Option<u32>
     }
 }
 
-/// Where these stand in a version, by its layout and its records. None where this crate's tables lack the version (they
-/// have 3.7 to 3.13), or the records lack where classes keep their names.
-pub fn heap_places(version: &Version, layout: &Layout, records: &Records) -> Option<HeapPlaces>
-    ensures { result ≡ heap_places version.now layout.now records.now }
+/// Where these stand in a version, by its layout, its records and the classes of sets. None where this crate's tables
+/// lack the version (they have 3.7 to 3.13), or the records lack where classes keep their names.
+pub fn heap_places(
+    version: &Version,
+    layout: &Layout,
+    records: &Records,
+    sets: Option<SetClasses>,
+) -> Option<HeapPlaces>
+    ensures { result ≡ heap_places version.now layout.now records.now sets }
 {
     let major = small(version.major)?;
     let minor = small(version.minor)?;
     let lists = list_places(major, minor)?;
-    let sizes = size_places(major, minor)?;
+    let sizes = size_places(sets, major, minor)?;
     let klass = records.types.klass?;
     let heap_type = records.types.heap_type?;
     Some(HeapPlaces {

@@ -26,7 +26,7 @@ fn generation_of(list: &GcList) -> Generation
     }
 }
 
-/// What is told of lists. At most eight reads of each object, and those of names.
+/// What is told of lists. At most 24 reads of each object, and those of names.
 fn read_counted<P: ProcessMemory>(
     alloc: Global,
     process: &mut P,
@@ -35,7 +35,7 @@ fn read_counted<P: ProcessMemory>(
     lists: &Lists,
 ) -> Result<Heap, AllocError>
     requires sound { IsSound layout.now }
-    ensures { Reading (8 * members_in lists.now + names_reads) (P.seen process.old) (P.seen process.new)
+    ensures { Reading (24 * members_in lists.now + names_reads) (P.seen process.old) (P.seen process.new)
         (λ m. IfOk result (λ heap. IsHeap layout.now places.now m (four_of lists.now) heap)) }
 {
     let objects = objects_of(alloc, places.lists.head_size, lists)?;
@@ -47,6 +47,7 @@ fn read_counted<P: ProcessMemory>(
         middle: generation_of(&lists.middle),
         oldest: generation_of(&lists.oldest),
         permanent: generation_of(&lists.permanent),
+        sets: places.sizes.sets.is_some(),
         classes,
         unreadable: census.unreadable,
     })
@@ -59,7 +60,7 @@ fn read_counted<P: ProcessMemory>(
 /// most bytes first, and the first 2,048 classes have their names. Where heads are to be checked and one isn't the head
 /// of a list, the answer is `NoLists` with the first such.
 ///
-/// The one error is want of memory. At most nine reads of each object, 16393 for each name, and 21 more.
+/// The one error is want of memory. At most 25 reads of each object, 16393 for each name, and 21 more.
 pub fn read_heap<P: ProcessMemory>(
     alloc: Global,
     process: &mut P,

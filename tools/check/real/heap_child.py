@@ -29,6 +29,18 @@ class Table(dict):
     __slots__ = ()
 
 
+class Names(set):
+    pass
+
+
+class Fewer(Names):
+    __slots__ = ()
+
+
+class Fixed(frozenset):
+    __slots__ = ()
+
+
 class Plain:
     def __init__(self, number):
         self.number = number
@@ -51,12 +63,19 @@ def census(classes):
     return {it.__name__: row for it, row in found.items()}
 
 
+def largest(kind):
+    """The three largest objects of a class, by their addresses: most bytes first, then by address."""
+    rows = sorted((-sys.getsizeof(it), id(it)) for it in gc.get_objects() if type(it) is kind)
+    return [[number, -size] for size, number in rows[:3]]
+
+
 def told(kind):
     """What is said."""
-    rows = census((Slotted, Pair, Rows, Table, Plain, Ring, dict, list))
+    rows = census((Slotted, Pair, Rows, Table, Names, Fewer, Fixed, Plain, Ring, dict, list))
     # (its address lets a copy of the core be torn at its head. 3.12 has frozen some objects before it runs a program.)
     return json.dumps({"kind": kind, "classes": rows, "all": len(gc.get_objects()), "frozen": gc.get_freeze_count(),
-                       "middle": id(KEPT[len(KEPT) // 2])})
+                       "middle": id(KEPT[len(KEPT) // 2]),
+                       "largest": {it.__name__: largest(it) for it in (Slotted, Pair, Rows, Table, Names, Fewer, Fixed)}})
 
 
 def dies(phase, info):
@@ -71,6 +90,12 @@ PAIRS = [Pair((it, [], it)) for it in range(MANY // 2)]
 ROWS = [Rows(range(it % 50)) for it in range(MANY // 3)]
 TABLES = [Table((number, [number]) for number in range(it % 40)) for it in range(MANY // 3)]
 NAMED = [Table((str(number), []) for number in range(it % 40)) for it in range(MANY // 3)]
+# (up to four elements stand in a set's own block, sets of more have a table; some had one and were emptied)
+NAMES = [Names(range(it % 50)) for it in range(MANY // 3)]
+FEWER = [Fewer(str(number) for number in range(it % 9)) for it in range(MANY // 3)]
+FIXED = [Fixed(range(it % 70)) for it in range(MANY // 3)]
+for it in NAMES[::7]:
+    it.clear()
 PLAIN = [Plain(it) for it in range(MANY)]
 for _ in range(MANY // 4):
     Ring()

@@ -3,9 +3,10 @@
 
     tools/check/real/real_heap.py --program crates/pystacks/out/pystacks --salvage crates/pysalvage/out/pysalvage [PYTHON..]
 
-For each Python that is installed: thousands of objects with slots, tuples, lists, dicts, instances and cycles, in a process that aborts as it is,
-behind `gc.freeze`, with cycles that nothing refers to, and in a collection. How many objects there are of each class is as `gc.get_objects`
-had it, and the bytes of those with slots, tuples, lists and dicts as `sys.getsizeof` had them; of all objects at most 300 are others, which came or
+For each Python that is installed: thousands of objects with slots, tuples, lists, dicts, sets, instances and cycles, in a process that aborts as it
+is, behind `gc.freeze`, with cycles that nothing refers to, and in a collection. How many objects there are of each class is as `gc.get_objects`
+had it, and the bytes of those with slots, tuples, lists, dicts and sets as `sys.getsizeof` had them; the three largest objects of these classes are
+those that `sys.getsizeof` and `id` had, where they are told; of all objects at most 300 are others, which came or
 went behind the count. A copy whose list is torn at an object says so there, and counts what stands before. 3.6 and before are told as not
 described. The status is 0 exactly where nothing that was tried failed.
 """
@@ -39,8 +40,11 @@ TOOL = TOOLS / "dump_core.py"
 
 KINDS = ("plain", "frozen", "garbage", "collecting")
 
-SIZED = ("Slotted", "Pair", "Rows", "Table")
-"""The classes whose objects have no other blocks than their own, their items' and their keys'."""
+SETS = ("Names", "Fewer", "Fixed")
+"""Classes of sets and of frozensets, small and large ones."""
+
+SIZED = ("Slotted", "Pair", "Rows", "Table", *SETS)
+"""The classes whose objects have no other blocks than their own, their items', their keys' and their tables."""
 
 COUNTED = (*SIZED, "Plain", "Ring")
 
@@ -71,16 +75,34 @@ def check_ends(heap: Tree, kind: str) -> None:
         raise Failure(f"{kind}: {heap['lists']['permanent']['objects']} objects are in the permanent generation")
 
 
+def check_largest(rows: Dict[str, Tree], wanted: Tree, kind: str) -> None:
+    """Fails where the largest objects of a class are others, or are told of none of the classes. (They are told of the first ten.)"""
+    told = 0
+    for name, largest in wanted["largest"].items():
+        found = (rows.get(name) or {"largest": None})["largest"]
+        if found is None:
+            continue
+        told += 1
+        if [[int(it["address"], 16), it["bytes"]] for it in found] != largest:
+            raise Failure(f"{kind}: the largest objects of {name} are {found}, and the process had {largest}")
+    if told < 4:
+        raise Failure(f"{kind}: the largest objects of {told} classes are told")
+
+
 def check_counts(heap: Tree, wanted: Tree, kind: str) -> int:
     """Fails where what is counted of a class is something else. How many objects there are."""
     rows = rows_in(heap)
     for name in COUNTED:
         count, size = wanted["classes"][name]
-        row = rows.get(name) or {"objects": 0, "bytes": 0, "more": 0, "unknown": 0}
-        if row["objects"] != count or row["unknown"]:
-            raise Failure(f"{kind}: {row['objects']} objects of {name}, {row['unknown']} of unknown size, and the process had {count}")
+        row = rows.get(name) or {"objects": 0, "bytes": 0, "more": 0, "unknown": 0, "unread": 0, "largest": None}
+        if row["objects"] != count or row["unknown"] or row["unread"]:
+            raise Failure(f"{kind}: {row['objects']} objects of {name}, {row['unknown']} of unknown size, {row['unread']} of unknown other blocks, "
+                          f"and the process had {count}")
         if name in SIZED and row["bytes"] + row["more"] != size:
             raise Failure(f"{kind}: {row['bytes']} and {row['more']} bytes of {name}, and the process had {size}")
+    if not heap["sets"]:
+        raise Failure(f"{kind}: the tables of sets are not counted")
+    check_largest(rows, wanted, kind)
     total = sum(it["objects"] for it in heap["classes"]) + heap["unreadable"]
     listed = sum(it["objects"] for it in heap["lists"].values())
     if total != listed:

@@ -3,9 +3,9 @@
 import struct
 from typing import Dict, List, Sequence, Tuple
 
-from made import EXAMPLE, Objects, Segment, core_file, edited
+from made import EXAMPLE, Objects, Section, Segment, Symbol, core_file, edited, image_file
 from rows_salvage import NAMED, RUNTIME, runtime
-from small_core import HEAP, PATH, bss, files_of, heap, mapped
+from small_core import BSS, HEAP, PATH, bss, files_of, heap, mapped
 
 LAYOUT = edited(EXAMPLE, klass="{size=296, name=24, flags=168, dict_offset=288}")
 """The small core's layout, with classes as 3.9 has them: what a census reads of a class stands where it does in each version."""
@@ -36,13 +36,19 @@ HEADS = heads_of(FIRSTS[9])
 COLLECTING = 816
 """Where the 4 bytes stand there that say whether a collection runs."""
 
-BASIC_SIZE, ITEM_SIZE, FLAGS, DICT, QUALNAME = 32, 40, 168, 264, 856
+BASIC_SIZE, ITEM_SIZE, FLAGS, BASE, DICT, QUALNAME = 32, 40, 168, 256, 264, 856
 
 ON_HEAP, TRACKED, INTEGER, LIST, TUPLE, BYTES, TEXT, DICTS, TYPE = 9, 14, 24, 25, 26, 27, 28, 29, 31
 """The bits of a class's flags."""
 
 NOWHERE = 0x70000000
 """An address that is not in memory."""
+
+
+def with_sets(*named: Tuple[str, int]) -> bytes:
+    """The program's file with the runtime, and symbols of classes of sets."""
+    return image_file([Segment(0x400000, b"", 5, 0x1000)], (BSS, 16), [Symbol(name, at) for name, at in (("_PyRuntime", RUNTIME), *named)],
+                      [Section(".PyRuntime", 1, RUNTIME, None, 592)])
 
 
 def of_minor(text: str, minor: int) -> str:
@@ -62,6 +68,7 @@ class MadeHeap:
         self.objects, self.minor, self.heads = heap(LAYOUT), minor, heads_of(FIRSTS[minor])
         self.objects.write(self.head("permanent"), bytes(112))
         self.lists: Dict[str, List[int]] = {it: [] for it in HEADS}
+        self.held: Dict[int, List[int]] = {}
         for it in HEADS:
             self.objects.word(self.head(it), self.head(it))
             self.objects.word(self.head(it) + 8, self.head(it))
@@ -115,13 +122,20 @@ class MadeHeap:
         objects.word(before, head)
         objects.word(own + 8, head)
         members.append(head)
+        self.held.setdefault(klass, []).append(head + 16)
         return head + 16
+
+    def tops(self, klass: int, size: int, *left_out: int) -> List[Tuple[int, int]]:
+        """The three largest objects of a class whose objects have so many bytes each, but for some that aren't counted: bytes and addresses."""
+        return [(size, it) for it in sorted(self.held.get(klass, ())) if it not in left_out][:3]
 
     def head(self, of: str) -> int:
         """Where the head of a list stands."""
         return HEAP + self.heads[of]
 
-    def files(self, *cuts: int, more: Sequence[Segment] = (), interpreters: Sequence[int] = (HEAP,)) -> Dict[str, bytes]:
+    def files(
+        self, *cuts: int, more: Sequence[Segment] = (), interpreters: Sequence[int] = (HEAP,), program: bytes = NAMED,
+    ) -> Dict[str, bytes]:
         """The files of a core of these objects. Of each two cuts the bytes from the first to the second one are not there."""
         data, parts, begin = bytes(self.objects.data), [], 0
         for first, last in zip(cuts[::2], cuts[1::2]):
@@ -129,7 +143,7 @@ class MadeHeap:
             begin = last
         parts.append(Segment(HEAP + begin, data[begin:], 6))
         core = core_file([*parts, *more, mapped(of_minor(PATH.decode(), self.minor).encode()), bss(0, 0), runtime(*interpreters)])
-        return {**files_of(core, layout_of_minor(self.minor), NAMED), "records": of_minor(RECORDS.decode(), self.minor).encode()}
+        return {**files_of(core, layout_of_minor(self.minor), program), "records": of_minor(RECORDS.decode(), self.minor).encode()}
 
 
 # ---- the runtime's
@@ -139,8 +153,8 @@ RUNTIME_FIRSTS = {7: (352, 48, 512, 32), 8: (368, 24, 448, 16)}
 head has, by minor versions."""
 
 
-def of_runtime(minor: int, program: bytes = NAMED) -> Dict[str, bytes]:
-    """The files of a core of 3.7 or 3.8, with an object in the youngest of the runtime's lists."""
+def of_runtime(minor: int, program: bytes = NAMED) -> Tuple[Dict[str, bytes], int]:
+    """The files of a core of 3.7 or 3.8, with an object in the youngest of the runtime's lists, and where its head stands."""
     made = MadeHeap()
     objects, (first, apart, permanent, size) = made.objects, RUNTIME_FIRSTS[minor]
     klass, member, data = made.klass("T"), objects.free(), bytearray(runtime(HEAP).data.ljust(1408, b"\0"))
@@ -149,7 +163,7 @@ def of_runtime(minor: int, program: bytes = NAMED) -> Dict[str, bytes]:
     struct.pack_into("<2Q", data, first, member, member)
     objects.write(member, struct.pack("<2Q", RUNTIME + first, RUNTIME + first).ljust(size, b"\0") + struct.pack("<2Q", 1, klass))
     core = core_file([objects.segment(6), mapped(of_minor(PATH.decode(), minor).encode()), bss(0, 0), Segment(RUNTIME, bytes(data), 6)])
-    return {**files_of(core, layout_of_minor(minor), program), "records": of_minor(RECORDS.decode(), minor).encode()}
+    return {**files_of(core, layout_of_minor(minor), program), "records": of_minor(RECORDS.decode(), minor).encode()}, member
 
 
 # ---- heaps that ask for much

@@ -5,7 +5,7 @@ import struct
 from typing import Callable, Dict, Iterator, List, Optional, Sequence, Tuple
 
 from made_heaps import BYTES, COLLECTING, DICTS, FLAGS, HEADS, INTEGER, LIST, NOWHERE, QUALNAME, RECORDS, TRACKED, TUPLE, TYPE
-from made_heaps import MadeHeap, of_minor, of_runtime
+from made_heaps import BASE, MadeHeap, of_minor, of_runtime, with_sets
 from row import Row
 from rows_salvage import GOOD, STRIPPED, broken_tree, salvage
 from small_core import HEAP, TEXT
@@ -18,21 +18,30 @@ GENERATIONS = {"youngest": "generation 0", "middle": "generation 1", "oldest": "
 
 def rows() -> Iterator[Row]:
     """All of them."""
-    for part in (counted, sizes, keys, names, lost, ends, collecting, many, several, checked, of_runtimes, untold, trees):
+    for part in (counted, sizes, keys, sets, names, lost, ends, collecting, many, several, checked, of_runtimes, untold, trees):
         yield from part()
 
 
-def head(*counts: int, at: int = HEAP) -> str:
-    """The line that counts the objects of the lists."""
+NO_SETS = "    tables of sets are not counted: no symbol names their classes\n"
+
+
+def head(*counts: int, at: int = HEAP, sets: bool = False) -> str:
+    """The line that counts the objects of the lists, and the one that says that the tables of sets are not counted."""
     youngest, middle, oldest, permanent = [*counts, 0, 0, 0, 0][:4]
-    return f"Heap of the interpreter at 0x{at:x}: {youngest}, {middle}, {oldest} and {permanent} objects\n"
+    return f"Heap of the interpreter at 0x{at:x}: {youngest}, {middle}, {oldest} and {permanent} objects\n" + ("" if sets else NO_SETS)
 
 
-def line(objects: int, size: int, name: str, more: int = 0, unknown: int = 0) -> str:
-    """The line of a class."""
+Tops = Sequence[Tuple[int, int]]
+"""Bytes and addresses of the largest objects of a class."""
+
+
+def line(objects: int, size: int, name: str, tops: Tops = (), more: int = 0, unknown: int = 0, unread: int = 0) -> str:
+    """The line of a class, and that of its largest objects if there are any."""
     blocks = f" and {more} in other blocks" if more else ""
     lost_size = f", {unknown} of unknown size" if unknown else ""
-    return f"    {objects} objects, {size} bytes{blocks}{lost_size}: {name}\n"
+    lost_blocks = f", {unread} of unknown other blocks" if unread else ""
+    largest = f"        the largest: {', '.join(f'{number} at 0x{at:x}' for number, at in tops)}\n" if tops else ""
+    return f"    {objects} objects, {size} bytes{blocks}{lost_size}{lost_blocks}: {name}\n{largest}"
 
 
 def told(what: str, made: MadeHeap, text: str, *cuts: int) -> Row:
@@ -47,69 +56,153 @@ def counted() -> Iterator[Row]:
     one, other = made.klass("Order", 48), made.klass("Row", 100)
     for it in (one, other, one):
         made.add("youngest", it)
-    yield told("two objects of one class and one of another", made, head(3) + line(2, 128, "Order") + line(1, 116, "Row"))
+    yield told("two objects of one class and one of another", made, head(3) + line(2, 128, "Order", made.tops(one, 64))
+               + line(1, 116, "Row", made.tops(other, 116)))
     made = MadeHeap()
     classes = [made.klass(it, 32) for it in ("A", "B", "C")]
     for name, it in zip(HEADS, (classes[2], classes[0], classes[1], classes[2])):
         made.add(name, it)
-    yield told("one in each list", made, head(1, 1, 1, 1) + line(2, 96, "C") + line(1, 48, "A") + line(1, 48, "B"))
+    lines = [line(objects, 48 * objects, name, made.tops(it, 48)) for objects, name, it in zip((1, 1, 2), "ABC", classes)]
+    yield told("one in each list", made, head(1, 1, 1, 1) + lines[2] + lines[0] + lines[1])
     made = MadeHeap()
     large, small = made.klass("Large", 200), made.klass("Small", 16)
     for it in (small, small, large):
         made.add("oldest", it)
-    yield told("most bytes first", made, head(0, 0, 3) + line(1, 216, "Large") + line(2, 64, "Small"))
+    yield told("most bytes first", made, head(0, 0, 3) + line(1, 216, "Large", made.tops(large, 216)) + line(2, 64, "Small", made.tops(small, 32)))
+    made = MadeHeap()
+    klass = made.klass("P", 24, 8, (TRACKED, TUPLE))
+    held = [made.add("youngest", klass, it) for it in (1, 3, 3, 0, 2, 3)]
+    yield told("the three largest of six, by address where they are as large", made, head(6)
+               + line(6, 6 * 40 + 12 * 8, "P", [(64, held[1]), (64, held[2]), (64, held[5])]))
 
 
-SIZES: Tuple[Tuple[str, Sequence[int], Tuple[int, int], Sequence[int], Tuple[int, int, int]], ...] = (
-    ("a tuple of three", (TRACKED, TUPLE), (24, 8), (3,), (64, 0, 0)),
-    ("a tuple of none", (TRACKED, TUPLE), (24, 8), (0,), (40, 0, 0)),
-    ("a list of five, with room for eight", (TRACKED, LIST), (40, 0), (5, NOWHERE, 8), (56, 64, 0)),
-    ("a list with room for none", (TRACKED, LIST), (40, 0), (0, 0, 0), (56, 0, 0)),
-    ("a list with more room than 64 bits have", (TRACKED, LIST), (40, 0), (0, 0, 2 ** 61), (56, 0, 0)),
-    ("bytes", (TRACKED, BYTES), (33, 1), (5,), (54, 0, 0)),
-    ("an integer below 0, of two digits", (TRACKED, INTEGER), (24, 4), (-2,), (48, 0, 0)),
-    ("a class with three slots", (TRACKED, TYPE), (880, 40), (3,), (1016, 0, 0)),
-    ("one that has no count of items", (TRACKED,), (24, 8), (3,), (40, 0, 0)),
-    ("one without a head of the collector", (), (24, 0), (), (24, 0, 0)),
-    ("with flags of later versions", (3, 4, TRACKED), (24, 0), (), (40, 0, 0)),
-    ("the most bytes that there may be", (TRACKED,), (2 ** 64 - 17, 0), (), (2 ** 64 - 1, 0, 0)),
-    ("a byte more than there may be", (TRACKED,), (2 ** 64 - 16, 0), (), (0, 0, 1)),
-    ("more items than there may be", (TRACKED, TUPLE), (24, 8), (2 ** 61,), (0, 0, 1)),
-    ("a count below 0", (TRACKED, TUPLE), (24, 8), (-1,), (0, 0, 1)),
+SIZES: Tuple[Tuple[str, Sequence[int], Tuple[int, int], Sequence[int], Tuple[int, int, int, int]], ...] = (
+    ("a tuple of three", (TRACKED, TUPLE), (24, 8), (3,), (64, 0, 0, 0)),
+    ("a tuple of none", (TRACKED, TUPLE), (24, 8), (0,), (40, 0, 0, 0)),
+    ("a list of five, with room for eight", (TRACKED, LIST), (40, 0), (5, NOWHERE, 8), (56, 64, 0, 0)),
+    ("a list with room for none", (TRACKED, LIST), (40, 0), (0, 0, 0), (56, 0, 0, 0)),
+    ("a list with more room than 64 bits have", (TRACKED, LIST), (40, 0), (0, 0, 2 ** 61), (56, 0, 0, 1)),
+    ("bytes", (TRACKED, BYTES), (33, 1), (5,), (54, 0, 0, 0)),
+    ("an integer below 0, of two digits", (TRACKED, INTEGER), (24, 4), (-2,), (48, 0, 0, 0)),
+    ("a class with three slots", (TRACKED, TYPE), (880, 40), (3,), (1016, 0, 0, 0)),
+    ("one that has no count of items", (TRACKED,), (24, 8), (3,), (40, 0, 0, 0)),
+    ("one without a head of the collector", (), (24, 0), (), (24, 0, 0, 0)),
+    ("with flags of later versions", (3, 4, TRACKED), (24, 0), (), (40, 0, 0, 0)),
+    ("the most bytes that there may be", (TRACKED,), (2 ** 64 - 17, 0), (), (2 ** 64 - 1, 0, 0, 0)),
+    ("a byte more than there may be", (TRACKED,), (2 ** 64 - 16, 0), (), (0, 0, 1, 0)),
+    ("more items than there may be", (TRACKED, TUPLE), (24, 8), (2 ** 61,), (0, 0, 1, 0)),
+    ("a count below 0", (TRACKED, TUPLE), (24, 8), (-1,), (0, 0, 1, 0)),
 )
 """What an object of a class is, by its flags, its bytes and those of an item, and the words behind its head; its bytes, those in other blocks,
-and of how many the size is not known."""
+and of how many the size is not known, and that of other blocks."""
 
 
 def sizes() -> Iterator[Row]:
     """How many bytes an object has."""
-    for what, bits, (basic, item), words, (size, more, unknown) in SIZES:
+    for what, bits, (basic, item), words, (size, more, unknown, unread) in SIZES:
         made = MadeHeap()
-        made.add("youngest", made.klass("T", basic, item, bits), *words)
-        yield told(f"size: {what}", made, head(1) + line(1, size, "T", more, unknown))
+        at = made.add("youngest", made.klass("T", basic, item, bits), *words)
+        yield told(f"size: {what}", made, head(1) + line(1, size, "T", [(size + more, at)], more, unknown, unread))
     made = MadeHeap()
     klass = made.klass("T", 2 ** 64 - 17)
     made.add("youngest", klass)
     made.add("youngest", klass)
-    yield told("size: a sum that is more than there may be", made, head(2) + line(2, 2 ** 64 - 1, "T"))
+    yield told("size: a sum that is more than there may be", made, head(2) + line(2, 2 ** 64 - 1, "T", made.tops(klass, 2 ** 64 - 1)))
 
 
 def keys() -> Iterator[Row]:
     """How many bytes the keys of a dict have."""
-    for what, owners, slots, more in (
-        ("its own", 1, 8, 168), ("two owners", 2, 8, 0), ("no owner", 0, 8, 0), ("no slots", 1, 0, 40),
-        ("the most slots of an index of one byte each", 1, 255, 40 + 255 + 170 * 24), ("256 slots", 1, 256, 40 + 512 + 170 * 24),
-        ("65,536 slots", 1, 65536, 40 + 262144 + 43690 * 24), ("more slots than there may be", 1, 2 ** 63, 0),
-        ("more bytes than there may be", 1, 2 ** 60, 0),
+    for what, owners, slots, more, unread in (
+        ("its own", 1, 8, 168, 0), ("two owners", 2, 8, 0, 0), ("no owner", 0, 8, 0, 0), ("no slots", 1, 0, 40, 0),
+        ("the most slots of an index of one byte each", 1, 255, 40 + 255 + 170 * 24, 0), ("256 slots", 1, 256, 40 + 512 + 170 * 24, 0),
+        ("65,536 slots", 1, 65536, 40 + 262144 + 43690 * 24, 0), ("more slots than there may be", 1, 2 ** 63, 0, 1),
+        ("more bytes than there may be", 1, 2 ** 60, 0, 1),
     ):
         made = MadeHeap()
-        made.add("youngest", made.klass("D", 48, 0, (TRACKED, DICTS)), 0, 0, made.keys(owners, slots), 0)
-        yield told(f"keys: {what}", made, head(1) + line(1, 64, "D", more))
+        at = made.add("youngest", made.klass("D", 48, 0, (TRACKED, DICTS)), 0, 0, made.keys(owners, slots), 0)
+        yield told(f"keys: {what}", made, head(1) + line(1, 64, "D", [(64 + more, at)], more, unread=unread))
     made = MadeHeap()
     klass = made.klass("D", 48, 0, (TRACKED, DICTS))
-    for it in (made.keys(), NOWHERE, made.keys(2)):
+    for it in (made.keys(2), NOWHERE, made.keys()):
         made.add("youngest", klass, 0, 0, it, 0)
-    yield told("keys: of one dict of three", made, head(3) + line(3, 192, "D", 168))
+    (_, first), (_, second), (_, third) = made.tops(klass, 0)
+    yield told("keys: of one dict of three", made, head(3) + line(3, 192, "D", [(232, third), (64, first), (64, second)], 168, unread=1))
+
+
+TABLES: Tuple[Tuple[str, Callable[[int], Tuple[int, int]], Tuple[int, int]], ...] = (
+    ("the small table", lambda at: (7, at + 64), (0, 0)), ("a table of 32 entries", lambda at: (31, NOWHERE), (512, 0)),
+    ("a table of one entry", lambda at: (0, NOWHERE), (16, 0)), ("a table at null", lambda at: (31, 0), (512, 0)),
+    ("the small table's mask and another table", lambda at: (7, at + 72), (128, 0)),
+    ("the most entries that there may be", lambda at: (2 ** 60 - 2, NOWHERE), (2 ** 64 - 16, 0)),
+    ("an entry more", lambda at: (2 ** 60 - 1, NOWHERE), (0, 1)), ("a mask of all bits", lambda at: (-1, NOWHERE), (0, 1)),
+)
+"""Sets by the mask and the table of one at an address; the bytes of the table, and whether they are not known."""
+
+
+def set_heap(bases: int = 0, ends_at: int = 0) -> Tuple[MadeHeap, int, int, int]:
+    """A heap with `set`, `frozenset`, and a class that leads to `set`, or elsewhere, behind so many bases."""
+    made = MadeHeap()
+    kinds = [made.klass(it, 200) for it in ("set", "frozenset")]
+    for it in kinds:
+        made.objects.word(it + BASE, 0)
+    klass = kinds[0] if not ends_at else ends_at
+    for at in range(bases):
+        derived = made.klass(f"D{at}", 200)
+        made.objects.word(derived + BASE, klass)
+        klass = derived
+    return made, kinds[0], kinds[1], klass
+
+
+def of_sets(what: str, made: MadeHeap, kinds: Tuple[int, int], text: str, *cuts: int) -> Row:
+    """A heap that is told so, of a program whose symbols name the classes of sets."""
+    program = with_sets(("PySet_Type", kinds[0]), ("PyFrozenSet_Type", kinds[1]))
+    return salvage(f"heap: sets: {what}", HEAPS, made.files(*cuts, program=program), TEXT + text)
+
+
+def sets() -> Iterator[Row]:
+    """How many bytes the tables of sets have, of their classes, of those that derive from them, and of others."""
+    table = (1, 1, 31, NOWHERE)
+    for what, words, (more, unread) in TABLES:
+        for name in ("set", "frozenset"):
+            made, one, other, _ = set_heap()
+            klass = {"set": one, "frozenset": other}[name]
+            at = made.add("youngest", klass, 1, 1, 0, 0)
+            mask, place = words(at)
+            made.objects.word(at + 32, mask % 2 ** 64)
+            made.objects.word(at + 40, place)
+            yield of_sets(f"{name}: {what}", made, (one, other), head(1, sets=True)
+                          + line(1, 216, name, [(min(216 + more, 2 ** 64 - 1), at)], more, unread=unread))
+    for bases, more, unread in ((1, 512, 0), (2, 512, 0), (16, 512, 0), (17, 0, 1)):
+        made, one, other, klass = set_heap(bases)
+        at = made.add("youngest", klass, *table)
+        yield of_sets(f"a class {bases} bases away", made, (one, other), head(1, sets=True)
+                      + line(1, 216, f"D{bases - 1}", [(216 + more, at)], more, unread=unread))
+    made, one, other, klass = set_heap(1, NOWHERE)
+    at = made.add("youngest", klass, *table)
+    yield of_sets("a base that is not in memory", made, (one, other), head(1, sets=True) + line(1, 216, "D0", [(216, at)], unread=1))
+    made, one, other, _ = set_heap()
+    klass = made.klass("T", 200)
+    made.objects.word(klass + BASE, 0)
+    at = made.add("youngest", klass, *table)
+    yield of_sets("a class that derives from none", made, (one, other), head(1, sets=True) + line(1, 216, "T", [(216, at)]))
+    made, one, other, klass = set_heap(1)
+    at = made.add("youngest", klass, *table)
+    made.objects.word(klass + BASE, klass)
+    yield of_sets("a class that is its own base", made, (one, other), head(1, sets=True) + line(1, 216, "D0", [(216, at)], unread=1))
+    made, one, other, klass = set_heap(1)
+    made.sized(klass, 200, 0, (TRACKED, LIST))
+    at = made.add("youngest", klass, 1, 1, 4, NOWHERE)
+    yield of_sets("a class of lists that derives from it", made, (one, other), head(1, sets=True) + line(1, 216, "D0", [(248, at)], 32))
+    for place in (32, 40):
+        made, one, other, _ = set_heap()
+        first, second = made.add("youngest", one, *table), made.add("youngest", one, *table)
+        yield of_sets(f"a word that is not in memory, at {place}", made, (one, other), head(2, sets=True)
+                      + line(2, 432, "set", [(728, first), (216, second)], 512, unread=1), second + place - HEAP, second + place + 8 - HEAP)
+    made, one, other, _ = set_heap()
+    at = made.add("youngest", one, *table)
+    for name, where in (("PySet_Type", one), ("PyFrozenSet_Type", other)):
+        yield salvage(f"heap: sets: {name} alone has a symbol", HEAPS, made.files(program=with_sets((name, where))),
+                      TEXT + head(1) + line(1, 216, "set", [(216, at)]))
 
 
 def one_of(klass: Callable[[MadeHeap], int]) -> MadeHeap:
@@ -157,7 +250,8 @@ NAMES: Tuple[Tuple[str, Callable[[MadeHeap], int], str], ...] = (
 def names() -> Iterator[Row]:
     """Names of classes."""
     for what, klass, name in NAMES:
-        yield told(f"name: {what}", one_of(klass), head(1) + line(1, 48, name))
+        made = one_of(klass)
+        yield told(f"name: {what}", made, head(1) + line(1, 48, name, made.tops(min(made.held), 48)))
 
 
 def lost() -> Iterator[Row]:
@@ -165,24 +259,25 @@ def lost() -> Iterator[Row]:
     made = MadeHeap()
     klass = made.klass("T")
     first, second = made.add("oldest", klass), made.add("oldest", klass)
-    yield told("lost: the word that names a class", made, head(0, 0, 2) + "    1 objects whose class can't be read\n" + line(1, 48, "T"),
+    yield told("lost: the word that names a class", made, head(0, 0, 2) + "    1 objects whose class can't be read\n" + line(1, 48, "T", [(48, second)]),
                first - HEAP, first + 16 - HEAP)
     made = MadeHeap()
-    made.add("oldest", NOWHERE)
-    made.add("oldest", made.klass("T"))
-    yield told("lost: a class", made, head(0, 0, 2) + line(1, 48, "T") + line(1, 0, "?", unknown=1))
+    first, second = made.add("oldest", NOWHERE), made.add("oldest", made.klass("T"))
+    yield told("lost: a class", made, head(0, 0, 2) + line(1, 48, "T", [(48, second)]) + line(1, 0, "?", [(0, first)], unknown=1, unread=1))
     made = MadeHeap()
     klass = made.klass("T")
-    made.add("oldest", klass)
-    yield told("lost: the flags of a class", made, head(0, 0, 1) + line(1, 0, "?", unknown=1), klass + FLAGS - HEAP, klass + FLAGS + 8 - HEAP)
+    first = made.add("oldest", klass)
+    yield told("lost: the flags of a class", made, head(0, 0, 1) + line(1, 0, "?", [(0, first)], unknown=1, unread=1),
+               klass + FLAGS - HEAP, klass + FLAGS + 8 - HEAP)
     made = MadeHeap()
     klass = made.klass("P", 24, 8, (TRACKED, TUPLE))
     first, second = made.add("oldest", klass, 1, 0), made.add("oldest", klass, 1, 0)
-    yield told("lost: a count", made, head(0, 0, 2) + line(2, 48, "P", unknown=1), second + 16 - HEAP, second + 24 - HEAP)
+    yield told("lost: a count", made, head(0, 0, 2) + line(2, 48, "P", [(48, first), (0, second)], unknown=1), second + 16 - HEAP, second + 24 - HEAP)
     made = MadeHeap()
     klass = made.klass("L", 40, 0, (TRACKED, LIST))
     first, second = made.add("oldest", klass, 0, 0, 4), made.add("oldest", klass, 0, 0, 4)
-    yield told("lost: for how many items there is room", made, head(0, 0, 2) + line(2, 112, "L", 32), second + 32 - HEAP, second + 40 - HEAP)
+    yield told("lost: for how many items there is room", made, head(0, 0, 2) + line(2, 112, "L", [(88, first), (56, second)], 32, unread=1),
+               second + 32 - HEAP, second + 40 - HEAP)
 
 
 def of_three(of: str) -> Tuple[MadeHeap, List[int]]:
@@ -203,41 +298,48 @@ def left_of(of: str, count: int) -> str:
     return head(*(count if it == of else 1 if it == after else 0 for it in HEADS))
 
 
+def of_class(made: MadeHeap, *left_out: int) -> str:
+    """The line of the one class of a heap, of whose objects those with these heads aren't counted."""
+    (klass, held), = made.held.items()
+    count = len(held) - len(left_out)
+    return line(count, 48 * count, "T", made.tops(klass, 48, *(it + 16 for it in left_out)))
+
+
 def ends() -> Iterator[Row]:
     """How lists end."""
     for of, name in GENERATIONS.items():
         made, (_, second, third) = of_three(of)
         made.objects.word(second + 8, third)
         yield told(f"end: {name} is torn at an object", made,
-                   left_of(of, 1) + f"    {name} is torn at 0x{second:x}\n" + line(2, 96, "T"))
-        made, (_, second, _) = of_three(of)
+                   left_of(of, 1) + f"    {name} is torn at 0x{second:x}\n" + of_class(made, second, third))
+        made, (_, second, third) = of_three(of)
         made.objects.word(second, NOWHERE)
         yield told(f"end: {name} leads to what is not in memory", made,
-                   left_of(of, 2) + f"    {name} can't be read at 0x{NOWHERE:x}\n" + line(3, 144, "T"))
-    made, (_, second, _) = of_three("youngest")
+                   left_of(of, 2) + f"    {name} can't be read at 0x{NOWHERE:x}\n" + of_class(made, third))
+    made, (_, second, third) = of_three("youngest")
     middle = made.head("middle")
     made.objects.word(second, middle)
     made.objects.word(middle + 8, second)
     yield told("end: the head of another list", made, left_of("youngest", 2) + f"    generation 0 is torn at 0x{middle:x}\n"
-               + f"    generation 1 is torn at 0x{middle:x}\n" + line(3, 144, "T"))
+               + f"    generation 1 is torn at 0x{middle:x}\n" + of_class(made, third))
     made, (first, second, third) = of_three("youngest")
     own = made.head("youngest")
     made.objects.word(own + 8, second)
     yield told("end: its own head, which names another one", made,
-               left_of("youngest", 3) + f"    generation 0 is torn at 0x{own:x}\n" + line(4, 192, "T"))
+               left_of("youngest", 3) + f"    generation 0 is torn at 0x{own:x}\n" + of_class(made))
     made, (first, second, third) = of_three("youngest")
     made.objects.word(third, first)
-    yield told("end: one that was met", made, left_of("youngest", 3) + f"    generation 0 is torn at 0x{first:x}\n" + line(4, 192, "T"))
-    made, (first, _, _) = of_three("youngest")
+    yield told("end: one that was met", made, left_of("youngest", 3) + f"    generation 0 is torn at 0x{first:x}\n" + of_class(made))
+    made, (first, second, third) = of_three("youngest")
     made.objects.word(first, first)
-    yield told("end: itself", made, left_of("youngest", 1) + f"    generation 0 is torn at 0x{first:x}\n" + line(2, 96, "T"))
+    yield told("end: itself", made, left_of("youngest", 1) + f"    generation 0 is torn at 0x{first:x}\n" + of_class(made, second, third))
     made = MadeHeap()
     made.objects.word(made.head("oldest"), 0)
     yield told("end: a head that leads to null", made, head() + "    generation 2 can't be read at 0x0\n")
     made, _ = of_three("youngest")
     place = made.head("permanent")
     yield told("end: a head that is not in memory", made, left_of("youngest", 3) + f"    the permanent generation can't be read at 0x{place:x}\n"
-               + line(4, 192, "T"), place + 8 - HEAP, place + 16 - HEAP)
+               + of_class(made), place + 8 - HEAP, place + 16 - HEAP)
 
 
 def collecting() -> Iterator[Row]:
@@ -277,10 +379,12 @@ def of_dense_classes(count: int) -> Tuple[MadeHeap, List[int], int]:
 def many() -> Iterator[Row]:
     """As many classes as have a line, and more."""
     for count, more in ((40, ""), (41, "    and 1 more classes\n"), (141, "    and 101 more classes\n")):
-        made, _ = of_classes(count)
-        yield told(f"{count} classes", made, head(0, 0, count) + "".join(line(1, 48, f"C{it}") for it in range(40)) + more)
-    made, _, size = of_dense_classes(2050)
-    yield told("2,050 classes", made, head(2050) + line(1, size, "T") * 40 + "    and 2010 more classes\n")
+        made, classes = of_classes(count)
+        lines = [line(1, 48, f"C{at}", made.tops(it, 48) if at < 10 else ()) for at, it in enumerate(classes[:40])]
+        yield told(f"{count} classes", made, head(0, 0, count) + "".join(lines) + more)
+    made, classes, size = of_dense_classes(2050)
+    lines = [line(1, size, "T", made.tops(it, size) if at < 10 else ()) for at, it in enumerate(classes[:40])]
+    yield told("2,050 classes", made, head(2050) + "".join(lines) + "    and 2010 more classes\n")
 
 
 def of_two() -> Tuple[MadeHeap, int]:
@@ -302,13 +406,13 @@ def several() -> Iterator[Row]:
     """Two interpreters, of which each has lists of its own."""
     made, other = of_two()
     text = TEXT.replace("Thread", f"Interpreter 0x{HEAP:x}\nThread") + f"Interpreter 0x{other:x}\nThread 0x1\n"
-    yield salvage("heap: two interpreters", HEAPS, made.files(), text + head(1) + line(1, 48, "T") + head(at=other))
+    yield salvage("heap: two interpreters", HEAPS, made.files(), text + head(1) + of_class(made) + head(at=other))
     place, first = other + HEADS["oldest"], made.lists["youngest"][0]
     made.objects.word(first, place)
     made.objects.word(place + 8, first)
     torn = f"is torn at 0x{place:x}\n"
     yield salvage("heap: a list that leads to the head of another interpreter's", HEAPS, made.files(), text
-                  + head(1) + f"    generation 0 {torn}" + line(1, 48, "T") + head(at=other) + f"    generation 2 {torn}")
+                  + head(1) + f"    generation 0 {torn}" + of_class(made) + head(at=other) + f"    generation 2 {torn}")
 
 
 def checked() -> Iterator[Row]:
@@ -316,7 +420,7 @@ def checked() -> Iterator[Row]:
     words, text = of_minor(HEAPS, 13), of_minor(TEXT, 13)
     made = MadeHeap(13)
     made.add("middle", made.klass("T"))
-    yield salvage("heap: 3.13", words, made.files(), text + head(0, 1) + line(1, 48, "T"))
+    yield salvage("heap: 3.13", words, made.files(), text + head(0, 1) + of_class(made))
     for name in HEADS:
         made = MadeHeap(13)
         at, aside = made.head(name), made.objects.write(made.objects.free(), bytes(16))
@@ -335,11 +439,12 @@ def checked() -> Iterator[Row]:
 
 def of_runtimes() -> Iterator[Row]:
     """3.7 and 3.8, whose lists the runtime has."""
-    counts = "Heap of the runtime: 1, 0, 0 and 0 objects\n"
-    for minor, size in ((7, 64), (8, 48)):
+    counts = f"Heap of the runtime: 1, 0, 0 and 0 objects\n{NO_SETS}"
+    for minor, size, before in ((7, 64, 32), (8, 48, 16)):
         words, text = of_minor(HEAPS, minor), of_minor(TEXT, minor)
-        yield salvage(f"heap: 3.{minor}", words, of_runtime(minor), text + counts + line(1, size, "T"))
-    stripped = of_runtime(8, STRIPPED)
+        files, member = of_runtime(minor)
+        yield salvage(f"heap: 3.{minor}", words, files, text + counts + line(1, size, "T", [(size, member + before)]))
+    stripped, _ = of_runtime(8, STRIPPED)
     yield salvage("heap: 3.8: no symbol", words, stripped, text + "Heap of the runtime: no symbol tells where it is\n")
     yield salvage("heap: JSON: 3.8: no symbol", f"{words} -j", stripped, of_minor(tree_of([{"interpreter": None, "kind": "no runtime"}]), 8))
 
@@ -374,9 +479,13 @@ def tree_of(heap: Optional[Sequence[Dict[str, object]]]) -> str:
     return json.dumps({**tree, "heap": heap, "missing": None}, indent=2, ensure_ascii=False, sort_keys=True) + "\n"
 
 
-def class_tree(klass: int, name: Optional[str], objects: int, size: int, more: int = 0, unknown: int = 0) -> Dict[str, object]:
-    """The JSON of a class."""
-    return {"address": hex(klass), "bytes": size, "more": more, "name": name, "objects": objects, "unknown": unknown}
+def class_tree(
+    klass: int, name: Optional[str], objects: int, size: int, tops: Optional[Tops], more: int = 0, unknown: int = 0, unread: int = 0,
+) -> Dict[str, object]:
+    """The JSON of a class, with its largest objects where they are told."""
+    largest = None if tops is None else [{"address": hex(at), "bytes": number} for number, at in tops]
+    return {"address": hex(klass), "bytes": size, "largest": largest, "more": more, "name": name, "objects": objects, "unknown": unknown,
+            "unread": unread}
 
 
 def heap_tree(
@@ -387,7 +496,7 @@ def heap_tree(
     whole = (0, {"kind": "whole"})
     told_lists = {name: {"end": lists.get(name, whole)[1], "objects": lists.get(name, whole)[0]} for name in HEADS}
     return {"classes": list(classes), "collecting": is_collecting, "interpreter": hex(HEAP), "kind": "heap", "lists": told_lists,
-            "more_classes": more, "unreadable": unreadable}
+            "more_classes": more, "sets": False, "unreadable": unreadable}
 
 
 def trees() -> Iterator[Row]:
@@ -402,21 +511,24 @@ def trees() -> Iterator[Row]:
     one, other, lists = made.klass("Order", 48), made.heap_class('R"', "shop"), made.klass("L", 40, 0, (TRACKED, LIST))
     for name, it in (("youngest", one), ("middle", other), ("youngest", one), ("permanent", NOWHERE), ("oldest", lists)):
         made.add(name, it, 0, 0, 8)
-    counted_classes = [class_tree(one, "Order", 2, 128), class_tree(lists, "L", 1, 56, 64), class_tree(other, "shop.R\\u{22}", 1, 48),
-                       class_tree(NOWHERE, None, 1, 0, 0, 1)]
+    tops = made.tops
+    counted_classes = [class_tree(one, "Order", 2, 128, tops(one, 64)), class_tree(lists, "L", 1, 56, tops(lists, 120), 64),
+                       class_tree(other, "shop.R\\u{22}", 1, 48, tops(other, 48)), class_tree(NOWHERE, None, 1, 0, tops(NOWHERE, 0), 0, 1, 1)]
     yield json_row("classes", made, [heap_tree(counted_classes, youngest=(2, whole), middle=(1, whole), oldest=(1, whole), permanent=(1, whole))])
     made, classes = of_classes(41)
-    yield json_row("41 classes", made, [heap_tree([class_tree(it, f"C{at}", 1, 48) for at, it in enumerate(classes)], oldest=(41, whole))])
+    yield json_row("41 classes", made, [heap_tree([
+        class_tree(it, f"C{at}", 1, 48, made.tops(it, 48) if at < 10 else None) for at, it in enumerate(classes)], oldest=(41, whole))])
     made, classes, size = of_dense_classes(2050)
-    first_classes = [class_tree(it, "T", 1, size) for it in classes[:2048]]
+    first_classes = [class_tree(it, "T", 1, size, made.tops(it, size) if at < 10 else None) for at, it in enumerate(classes[:2048])]
     yield json_row("2,050 classes", made, [heap_tree(first_classes, more=2, youngest=(2050, whole))])
     made, (first, second, _) = of_three("youngest")
     klass, own = made.klass("U"), made.head("oldest")
     made.objects.word(second, NOWHERE)
     made.objects.word(own + 8, own + 24)
-    made.objects.word(made.lists["middle"][0] + 24, klass)
+    changed = made.lists["middle"][0]
+    made.objects.word(changed + 24, klass)
     made.objects.word(HEAP + COLLECTING, 1)
-    classes_left = [class_tree(class_in(made, first), "T", 1, 48), class_tree(klass, "U", 1, 48)]
+    classes_left = [class_tree(class_in(made, first), "T", 1, 48, [(48, first + 16)]), class_tree(klass, "U", 1, 48, [(48, changed + 16)])]
     gone, torn = {"address": hex(NOWHERE), "kind": "unreadable"}, {"address": hex(own), "kind": "torn"}
     yield json_row("what is broken", made, [heap_tree(classes_left, True, 1, youngest=(2, gone), middle=(1, whole), oldest=(0, torn))],
                    second + 16 - HEAP, second + 32 - HEAP)

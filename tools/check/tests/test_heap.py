@@ -3,6 +3,7 @@
 
 import io
 import json
+import re
 import struct
 import tempfile
 import unittest
@@ -12,15 +13,17 @@ import rooms  # noqa: F401
 from pystacks_tool.ask.heap import earlier_heaps, growth_of, heaps_of
 from pystacks_tool.cores.memory import mapped_of
 from pystacks_tool.faults import Fault
-from pystacks_tool.model import Growth, Interpreter, Mapped, Report
+from pystacks_tool.model import Growth, HeapClass, Interpreter, Mapped, Report
 from pystacks_tool.show.heap import heaps_lines
 from pystacks_tool.show.page import report_page
 from pystacks_tool.show.text import Style
+from pystacks_tool.show.treemap import HEIGHT, WIDTH, treemap_of
 
 
-def one_class(name, objects, size, more=0, unknown=0):
-    """A class, as the JSON has it."""
-    return {"address": "0x70", "name": name, "objects": objects, "bytes": size, "more": more, "unknown": unknown}
+def one_class(name, objects, size, more=0, unknown=0, unread=0, largest=None):
+    """A class, as the JSON has it, with its largest objects by address and bytes."""
+    told = largest and [{"address": address, "bytes": number} for address, number in largest]
+    return {"address": "0x70", "name": name, "objects": objects, "bytes": size, "largest": told, "more": more, "unknown": unknown, "unread": unread}
 
 
 def lists(kind="whole"):
@@ -50,6 +53,23 @@ class Heaps(unittest.TestCase):
             "         objects            bytes  class",
             "           1,000          168,000  dict (3 of unknown size)",
             "           2,000           96,000  m.Order"])
+
+    def test_largest(self):
+        """The largest objects of a class have a line below its own, and what can't be read of other blocks is said."""
+        found = shown(heap(one_class("m.Order", 2, 96, largest=[("0x20", 64), ("0x10", 32)]), one_class("set", 9, 10, unknown=1, unread=2)))
+        self.assertEqual(found[3:], [
+            "               2               96  m.Order",
+            "                                   the largest: 64 at 0x20, 32 at 0x10",
+            "               9               10  set (1 of unknown size, 2 of unknown other blocks)"])
+        mark = "    ... tables of sets aren't counted: no symbol names their classes"
+        self.assertEqual([mark in shown({**heap(), "sets": it}) for it in (False, True)], [True, False])
+
+    def test_older(self):
+        """What an earlier version told lacks keys."""
+        tree = one_class("m.Order", 2, 96)
+        for it in ("largest", "unread"):
+            del tree[it]
+        self.assertEqual(heaps_of([heap(tree)])[0].classes, heaps_of([heap(one_class("m.Order", 2, 96))])[0].classes)
 
     def test_marks(self):
         found = shown(heap(kind="torn", collecting=True, unreadable=5))
@@ -112,6 +132,50 @@ class Heaps(unittest.TestCase):
         self.assertIn("... 2 more classes", page)
         self.assertIn("Grown since the earlier core: +1 objects, +2 bytes", page)
         self.assertIn("m.&lt;A&gt;", page)
+
+
+class Treemaps(unittest.TestCase):
+    """The picture of the classes by their bytes."""
+
+    def tiles(self, *sizes):
+        """The tiles of classes with these bytes: name, share, bytes, and the place of each."""
+        svg = treemap_of([HeapClass(f"m.C{at}", 1, it) for at, it in enumerate(sizes)])
+        pattern = r'<title>(.*?): ([0-9.]+ %), ([0-9,]+) bytes</title><rect class="c\d" x="(.*?)" y="(.*?)" width="(.*?)" height="(.*?)"/>'
+        return [(name, share, int(size.replace(",", "")), *map(float, place)) for name, share, size, *place in re.findall(pattern, svg)]
+
+    def test_tiles(self):
+        """Each tile has its share of the picture, the largest first; together they fill it, and none lies over another one."""
+        sizes = (500, 250, 120, 60, 40, 20, 7, 3)
+        found = self.tiles(*sizes)
+        self.assertEqual([it[:3] for it in found][:2], [("m.C0", "50.0 %", 500), ("m.C1", "25.0 %", 250)])
+        self.assertEqual(sum(it[2] for it in found), 1000)
+        for name, _, size, _, _, width, height in found:
+            # (a gap of one unit parts tiles)
+            self.assertAlmostEqual((width + 1) * (height + 1) / (WIDTH * HEIGHT), size / 1000, places=3, msg=name)
+        for at, (_, _, _, x, y, width, height) in enumerate(found):
+            self.assertTrue(x >= 0 and y >= 0 and x + width <= WIDTH and y + height <= HEIGHT)
+            for _, _, _, left, top, wide, high in found[at + 1:]:
+                self.assertTrue(x + width <= left + 0.02 or left + wide <= x + 0.02 or y + height <= top + 0.02 or top + high <= y + 0.02)
+
+    def test_rest(self):
+        """At most forty classes have a tile, and none with less than 1 of 400; the others have one together."""
+        found = self.tiles(*[10] * 50)
+        self.assertEqual((len(found), sorted(it[2] for it in found)[-1]), (41, 100))
+        self.assertIn(("10 other classes", "20.0 %", 100), [it[:3] for it in found])
+        self.assertEqual([it[:3] for it in self.tiles(1000, 1, 0)], [("m.C0", "99.9 %", 1000), ("2 other classes", "0.1 %", 1)])
+        self.assertEqual([it[:3] for it in self.tiles(1000, 1)][1:], [("1 other class", "0.1 %", 1)])
+
+    def test_none(self):
+        self.assertEqual((treemap_of([]), treemap_of([HeapClass("m.A", 1, 0)])), ("", ""))
+
+    def test_text(self):
+        """A large tile has its name, share and bytes to read; names are escaped; a page asks for no style of its own for it."""
+        svg = treemap_of([HeapClass('m.<b>"', 1, 3000), HeapClass("m.\u202eB", 1, 1000)])
+        for it in (">m.&lt;b&gt;&quot;<", ">75.0 %<", ">3,000 bytes<", ">25.0 %<"):
+            self.assertIn(it, svg)
+        self.assertEqual([it for it in ("<b>", "\u202e", "style=", "onclick") if it in svg], [])
+        report = Report((Interpreter((), 0x10),), "3.11.7", 6, core="core", heaps=heaps_of([heap(one_class("m.A", 1, 8))]))
+        self.assertIn('<svg class="tree"', report_page(report, Style()))
 
 
 def table_of(*files):

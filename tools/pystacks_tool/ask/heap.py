@@ -25,7 +25,9 @@ ENDS = {"torn": "is torn at", "unreadable": "can't be read at", "cut": "has more
 
 def class_of(tree: Tree) -> HeapClass:
     """A class of which there are objects."""
-    return HeapClass(tree["name"] or f"class at {tree['address']}", tree["objects"], tree["bytes"], tree["more"], tree["unknown"])
+    largest = tuple((it["address"], it["bytes"]) for it in tree.get("largest") or ())
+    return HeapClass(tree["name"] or f"class at {tree['address']}", tree["objects"], tree["bytes"], tree["more"], tree["unknown"],
+                     tree.get("unread", 0), largest)
 
 
 def marks_of(tree: Tree) -> Tuple[str, ...]:
@@ -37,6 +39,8 @@ def marks_of(tree: Tree) -> Tuple[str, ...]:
             marks.append(f"{name} {ENDS[end['kind']]} {end['address']}")
     if tree.get("more_classes"):
         marks.append(f"{tree['more_classes']:,} more classes aren't told")
+    if tree.get("sets") is False:
+        marks.append("tables of sets aren't counted: no symbol names their classes")
     if tree["unreadable"]:
         marks.append(f"{tree['unreadable']:,} objects whose class can't be read")
     return tuple(marks)
@@ -85,7 +89,7 @@ EARLIER = "--diff names what -j --heap wrote of an earlier core"
 
 def is_counted(heap: Heap) -> bool:
     """Whether each class has a name and numbers, as the tool writes them."""
-    return not heap.fault and all(isinstance(it.name, str) and all(isinstance(number, int) for number in it[1:]) for it in heap.classes)
+    return not heap.fault and all(isinstance(it.name, str) and all(isinstance(number, int) for number in it[1:6]) for it in heap.classes)
 
 
 def earlier_heaps(path: str) -> Tuple[Heap, ...]:

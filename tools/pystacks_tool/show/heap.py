@@ -24,13 +24,20 @@ def head_of(heap: Heap) -> str:
 
 
 def name_of(one: HeapClass) -> str:
-    """A class's name, and of how many of its objects the size isn't known."""
-    return in_line(one.name) + (f" ({one.unknown:,} of unknown size)" if one.unknown else "")
+    """A class's name, and of how many of its objects the size isn't known, or that of their other blocks."""
+    lost = [f"{one.unknown:,} of unknown size"] * bool(one.unknown) + [f"{one.unread:,} of unknown other blocks"] * bool(one.unread)
+    return in_line(one.name) + (f" ({', '.join(lost)})" if lost else "")
 
 
-def row_of(one: HeapClass) -> str:
-    """The line of a class."""
-    return f"    {one.objects:>12,} {one.total:>16,}  {name_of(one)}"
+def largest_of(one: HeapClass) -> str:
+    """The largest objects of a class, each with its bytes."""
+    return ", ".join(f"{size:,} at {address}" for address, size in one.largest)
+
+
+def rows_of_class(one: HeapClass) -> List[str]:
+    """The line of a class, and that of its largest objects, where they are told."""
+    row = f"    {one.objects:>12,} {one.total:>16,}  {name_of(one)}"
+    return [row] + [f"{'':>35}the largest: {largest_of(one)}"] * bool(one.largest)
 
 
 def rest_of(left: Sequence[HeapClass]) -> str:
@@ -42,7 +49,7 @@ def rest_of(left: Sequence[HeapClass]) -> str:
 def rows_of(heap: Heap, shows_all: bool) -> List[str]:
     """The lines of the classes, those with the most bytes first."""
     shown = heap.classes if shows_all else heap.classes[:CLASSES]
-    rows = [row_of(it) for it in shown]
+    rows = [row for it in shown for row in rows_of_class(it)]
     return rows + ([rest_of(heap.classes[len(shown):])] if len(shown) < len(heap.classes) else [])
 
 

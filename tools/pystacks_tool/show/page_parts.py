@@ -37,6 +37,7 @@ details dd { margin: 0; }
 svg { width: 100%; height: auto; background: var(--soft); }
 svg text { font: 11px ui-monospace, monospace; fill: #1d2228; pointer-events: none; }
 svg g { cursor: pointer; outline: none; }
+svg.tree g { cursor: default; }
 svg g:hover rect, svg g:focus rect, svg g.on rect { stroke: var(--ink); stroke-width: 1.5; }
 .c0 { fill: #f4b183; } .c1 { fill: #f7c873; } .c2 { fill: #f2a1a1; } .c3 { fill: #e8c1a0; }
 .c4 { fill: #f6d58a; } .c5 { fill: #eeb3c0; } .c6 { fill: #e9b96e; } .c7 { fill: #f5c1b0; }

@@ -1,14 +1,15 @@
 """What a page shows beside the stacks of Python: the tasks of asyncio, and native stacks. Everything from the core is escaped."""
 
-from typing import Iterator, List, NamedTuple, Optional, Sequence
+from typing import Iterator, List, NamedTuple, Optional, Sequence, Tuple
 
-from pystacks_tool.model import Growth, Heap, Mapped, NativeFrame, NativeStack, Report, Task, Tasks
+from pystacks_tool.model import Growth, Heap, HeapClass, Mapped, NativeFrame, NativeStack, Report, Task, Tasks
 from pystacks_tool.show.escape import in_line
-from pystacks_tool.show.heap import counts_of, growth_head, head_of, name_of as class_name
+from pystacks_tool.show.heap import counts_of, growth_head, head_of, largest_of, name_of as class_name
 from pystacks_tool.show.native import crashed_first, frame_line, part_lines, stack_title, thread_names
 from pystacks_tool.show.page_frames import items_of, text
 from pystacks_tool.show.tasks import name_of, others_of, summary_of, task_blocks
 from pystacks_tool.show.text import Style
+from pystacks_tool.show.treemap import treemap_of
 
 NAMED = 1000
 """The most tasks of one place that are named."""
@@ -124,6 +125,11 @@ def growth_part(growth: Optional[Sequence[Growth]]) -> Iterator[str]:
     yield from rest_part(len(growth))
 
 
+def class_row(one: HeapClass) -> Tuple[str, str, str, str]:
+    """The row of a class."""
+    return f"{one.objects:,}", f"{one.total:,}", class_name(one), largest_of(one)
+
+
 def heap_part(heap: Heap) -> Iterator[str]:
     """What a heap holds."""
     mark = " class=\"end\"" if heap.fault else ""
@@ -132,7 +138,9 @@ def heap_part(heap: Heap) -> Iterator[str]:
         return
     yield f"<p>{text(counts_of(heap).strip())}</p>"
     yield from (f"<p class=\"end\">{text(in_line(it))}</p>" for it in heap.marks)
-    yield table_of(("objects", "bytes", "class"), [(f"{it.objects:,}", f"{it.total:,}", class_name(it)) for it in heap.classes[:CLASSES]])
+    picture = treemap_of(heap.classes)
+    yield from [picture] * bool(picture)
+    yield table_of(("objects", "bytes", "class", "the largest"), [class_row(it) for it in heap.classes[:CLASSES]])
     yield from rest_part(len(heap.classes))
 
 

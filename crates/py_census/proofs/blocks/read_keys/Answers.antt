@@ -3,8 +3,8 @@ use Rattle.std.specs.Prelude.{Some}
 use Rattle.std.proofs.lemmas.Result.{err_from_is_err_and}
 use Rattle.process_memory.specs.Memory.{word_at}
 use Rattle.process_memory.proofs.Reading.{reading_gives, reading_then}
+use Rattle.py_census.specs.Bases.{known}
 use Rattle.py_census.specs.Blocks.{keys_at, own_bytes}
-use Rattle.py_census.specs.Sizes.{known}
 use Rattle.py_census.proofs.blocks.read_keys.Goals as goal
 
 pub returns-in_err-word : goal.returns-in_err-word

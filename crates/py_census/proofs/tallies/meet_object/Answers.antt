@@ -11,7 +11,7 @@ pub returns-in_err-add_object-in-Some : goal.returns-in_err-add_object-in-Some
 returns-in_err-add_object-in-Some g c =
     let p = err_from_is_err_and c.from_residual-in_err-add_object-in-Some.result
     c.from_residual-in_err-add_object-in-Some.ensures.1 in
-    rw p.1 (reading_gives 8 _ (reading_then (λ m. Unit {0}) c.in_ok-its.ensures c.in_err-add_object-in-Some.ensures
+    rw p.1 (reading_gives 24 _ (reading_then (λ m. Unit {0}) c.in_ok-its.ensures c.in_err-add_object-in-Some.ensures
     (λ m a b. tt)) (omega arith) (λ m h. tt))
 
 pub returns-in_ok-add_object-in-Some : goal.returns-in_ok-add_object-in-Some
@@ -21,7 +21,7 @@ returns-in_ok-add_object-in-Some g c =
     let object = c.args.object in
     let old = c.args.tallies.now in
     let new = c.add_object.new.tallies in
-    reading_gives 8 _
+    reading_gives 24 _
     (reading_then (λ m. IsMet l p m object old new false) c.in_ok-its.ensures c.in_ok-add_object-in-Some.ensures
     (λ m a b. record {
       classes = λ class. b class ∙ ap (λ o. tally_after l p m object o (get nat_cmp old) class) (sym c.in-Some.is ∙ a);

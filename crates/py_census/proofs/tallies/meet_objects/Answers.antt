@@ -13,7 +13,7 @@ loop-object-init g c = reading_none _ _ _
 pub returns-in_err-lost : goal.returns-in_err-lost
 returns-in_err-lost g c =
     let p = err_from_is_err_and c.from_residual.result c.from_residual.ensures.1 in
-    rw p.1 (reading_gives (8 * length c.args.objects.now) _ (reading_then
+    rw p.1 (reading_gives (24 * length c.args.objects.now) _ (reading_then
     (λ m. Unit {0}) c.loop-object.invariant c.in_err-lost.ensures (λ m a b. tt))
     (omega (arith, c.loop-object-test.true)) (λ m h. tt))
 
@@ -24,7 +24,7 @@ loop-object-preserved g c =
     let i = c.loop-object.object-index in
     let xs = c.args.objects.now in
     let t = c.meet_object.new.tallies in
-    reading_gives (8 * (i + 1)) _
+    reading_gives (24 * (i + 1)) _
     (reading_then (λ m. AreTallied l p m (take (i + 1) xs) t c.saturating_add-unreadable.result)
     c.loop-object.invariant c.in_ok-lost.ensures
     (λ m a b. rw (take_more xs i 0 c.loop-object-test.true, c.saturating_add-unreadable.ensures, c.from.ensures)

@@ -1,4 +1,4 @@
-use Rattle.std.proofs.Common.{◌≡◌, ◌∙◌, ap, arith, length, refl, subst}
+use Rattle.std.proofs.Common.{◌∙◌, ap, arith, length, refl, subst}
 use Rattle.std.proofs.lemmas.Result.{err_from_is_err_and}
 use Rattle.process_memory.proofs.Reading.{reading_gives, reading_none, reading_then}
 use Rattle.gc_lists.specs.Lists.{four_of}
@@ -44,6 +44,7 @@ returns g c =
       middle = c.generation_of-2.result;
       oldest = c.generation_of-3.result;
       permanent = c.generation_of-4.result;
+      sets = c.is_some.result;
       classes = c.in_ok-classes.classes;
       unreadable = census.unreadable;
     })) c.in_ok-census.ensures.right c.in_ok-classes.ensures
@@ -53,6 +54,7 @@ returns g c =
       middle = c.generation_of-2.ensures;
       oldest = c.generation_of-3.ensures;
       permanent = c.generation_of-4.ensures;
+      sets = c.is_some.ensures;
       counted = counted_of census;
       census = subst (λ xs. IsCensus (class_at l m) (size_at l p.sizes m) (more_at l p.sizes m) xs (counted_of census)) objects a;
       classes = b ∙ ap (named_classes l p.classes m) c.deref-2.ensures.value;

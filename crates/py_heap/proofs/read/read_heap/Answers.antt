@@ -1,4 +1,4 @@
-use Rattle.std.proofs.Common.{◌≡◌, ◌∙◌, ap, arith, subst, sym}
+use Rattle.std.proofs.Common.{ap, arith, subst}
 use Rattle.std.proofs.lemmas.Result.{err_from_is_err_and}
 use Rattle.process_memory.specs.Memory.{byte_at}
 use Rattle.process_memory.proofs.Reading.{reading_gives, reading_here, reading_then}

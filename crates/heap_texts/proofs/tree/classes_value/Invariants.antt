@@ -1,7 +1,0 @@
-use Rattle.std.proofs.Common.{◌≡◌, map, take}
-use Rattle.serde_json.specs.View.{view}
-use Rattle.heap_texts.specs.Trees.{class_tree}
-use Rattle.heap_texts.proofs.tree.classes_value.Given as goal
-
-abbrev pub invariant-loop-class : goal.invariant-loop-class
-invariant-loop-class l = map view l.values.items ≡ map (λ x. class_tree x) (take l.class-index l.classes)
