@@ -36,6 +36,7 @@ VALUES = {
     **dict.fromkeys(CONTAINERS, ("items", "more")),
     **dict.fromkeys(("class", "builtin", "module"), ("address", "name")),
     "function": ("address", "file", "line", "name"),
+    **dict.fromkeys(("coroutine", "generator", "async generator"), ("address", "name", "state")),
     "object": ("address", "type"),
     "instance": ("address", "attributes", "more", "type"),
     "unreadable": ("address", "length", "of"),

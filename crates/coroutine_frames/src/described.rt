@@ -291,8 +291,9 @@ fn inside_of(
     }
 }
 
-/// How coroutines stand in memory, where the records say it.
-fn family_of(layout: &Layout, records: &Records) -> Option<Family>
+/// How coroutines, generators and async generators stand in memory, by a layout and the records of its version; none
+/// where a group that is needed is not described. What is read of a record may lie outside of it.
+pub fn family_of(layout: &Layout, records: &Records) -> Option<Family>
     ensures { result ≡ family_of layout.now records.now }
 {
     match records.coroutines.generator_inside {

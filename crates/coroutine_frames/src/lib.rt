@@ -4,5 +4,5 @@
 mod described;
 mod frame;
 
-pub use described::places_of;
+pub use described::{family_of, places_of};
 pub use frame::{CoroutineFrame, read_frame};

@@ -29,7 +29,11 @@ const NO_TYPES: ReprTypes = ReprTypes {
     method: None,
     builtin: None,
     module: None,
+    coroutine: None,
+    generator: None,
+    async_generator: None,
     instances: None,
+    coroutines: None,
 };
 
 fn local(alloc: Global, addr: u64) -> Result<LocalVariable, AllocError> {

@@ -1,7 +1,7 @@
 -- Where the parts of coroutines stand: which places can be read. That what is read of a record lies inside it is this
 -- project's rule; which fields there are is CPython's (Include/genobject.h, Include/frameobject.h, from 3.11 on
 -- Include/cpython/genobject.h and Include/internal/pycore_frame.h).
-use Rattle.std.specs.Prelude.{ℕ, ◌+◌, ◌<◌, ◌≤◌, ◌^◌, Option, IfSome}
+use Rattle.std.specs.Prelude.{ℕ, ◌+◌, ◌<◌, ◌≤◌, ◌^◌, nat_le, nat_lt, Bool, true, ◌&&◌, Option, Some, None, IfSome}
 use Rattle.py_coroutines.specs.declared.places.ApartPlaces.{ApartPlaces}
 use Rattle.py_coroutines.specs.declared.places.ApartStack.{ApartStack}
 use Rattle.py_coroutines.specs.declared.places.ApartStack.TheVariants.{Pointer, Depth}
@@ -37,3 +37,30 @@ IsSoundFamily (Inside p) = IsSoundInside p
 
 abbrev pub IsSound : Places → Type 0
 IsSound p = IsSoundFamily p.family
+
+-- ---- the same as a test
+
+abbrev pub lies : ℕ → ℕ → Bool
+lies end size = nat_le end size
+
+abbrev pub lies_if_there : Option ℕ → ℕ → Bool
+lies_if_there None size = true
+lies_if_there (Some place) size = lies (place + 1) size
+
+abbrev pub is_sound_stack : ApartStack → ℕ → Bool
+is_sound_stack (Pointer top) size = lies (top + 8) size
+is_sound_stack (Depth bottom depth state states) size = lies (bottom + 8) size && lies (depth + 4) size && lies (state + 1) size
+
+abbrev pub is_sound_apart : ApartPlaces → Bool
+is_sound_apart p = lies (p.frame + 8) p.size && lies_if_there p.running p.size && nat_lt p.size (2 ^ 16)
+    && lies (p.code + 8) p.frame_size && lies (p.last + 4) p.frame_size && is_sound_stack p.stack p.frame_size
+    && nat_lt p.frame_size (2 ^ 16)
+
+abbrev pub is_sound_inside : InsidePlaces → Bool
+is_sound_inside p = lies (p.state + 1) p.size && lies (p.frame + p.instruction + 8) p.size
+    && lies (p.frame + p.depth + 4) p.size && nat_lt p.size (2 ^ 16)
+
+-- whether what is read of each record of coroutines lies inside it
+abbrev pub is_sound_family : Family → Bool
+is_sound_family (Apart p) = is_sound_apart p
+is_sound_family (Inside p) = is_sound_inside p

@@ -19,7 +19,7 @@ pub use kinds::Kind;
 pub use member::{read_frame_place, read_kind};
 pub use places::{
     ApartPlaces, ApartStack, AwaitTypes, ClassPlaces, CodePlaces, Family, Held, Holders,
-    InsidePlaces, Places, States, Wants, is_sound,
+    InsidePlaces, Places, States, Wants, is_sound, is_sound_family,
 };
-pub use standing::{Standing, State};
+pub use standing::{Standing, State, read_standing};
 pub use turn::{AwaitEnd, Stop, Turn};

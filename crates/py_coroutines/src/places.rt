@@ -1,6 +1,8 @@
 //! Where the parts of coroutines stand, and of what they await.
-ghost use Rattle.std.specs.Prelude.{◌+◌, ◌↔◌, ◌≤◌, IfSome, IsTrue};
-ghost use Rattle.py_coroutines.specs.Places.{IsSound, IsSoundApart, IsSoundInside, IsSoundStack};
+ghost use Rattle.std.specs.Prelude.{◌≡◌, ◌+◌, ◌↔◌, ◌≤◌, IfSome, IsTrue};
+ghost use Rattle.py_coroutines.specs.Places.{IsSound, IsSoundApart, IsSoundFamily, IsSoundInside, IsSoundStack};
+ghost use Rattle.py_coroutines.specs.Places.{is_sound_apart, is_sound_family, is_sound_inside, is_sound_stack, lies};
+ghost use Rattle.py_coroutines.specs.Places.{lies_if_there};
 
 /// The addresses of the types by which objects are told; 0 for one that was not found, which then tells none.
 #[derive(Clone, Copy)]
@@ -81,7 +83,7 @@ pub struct CodePlaces {
 }
 
 /// The bytes by which a frame says its state, from 3.10 on.
-#[derive(Clone, Copy)]
+#[derive(Debug, Clone, Copy, Drop, PartialEq, Eq)]
 pub struct States {
     pub created: u32,
     pub suspended: u32,
@@ -91,7 +93,7 @@ pub struct States {
 }
 
 /// How a frame object tells its state and its stack.
-#[derive(Clone, Copy)]
+#[derive(Debug, Clone, Copy, Drop, PartialEq, Eq)]
 pub enum ApartStack {
     /// By a pointer behind the top, and no state (3.7 to 3.9).
     Pointer {
@@ -111,7 +113,7 @@ pub enum ApartStack {
 }
 
 /// Coroutines whose frame is an object of its own (3.7 to 3.10).
-#[derive(Clone, Copy)]
+#[derive(Debug, Clone, Copy, Drop, PartialEq, Eq)]
 pub struct ApartPlaces {
     /// How many bytes of a coroutine are read.
     pub size: u32,
@@ -129,7 +131,7 @@ pub struct ApartPlaces {
 }
 
 /// Coroutines that have their frame inside (from 3.11 on).
-#[derive(Clone, Copy)]
+#[derive(Debug, Clone, Copy, Drop, PartialEq, Eq)]
 pub struct InsidePlaces {
     /// How many bytes of a coroutine are read.
     pub size: u32,
@@ -147,7 +149,7 @@ pub struct InsidePlaces {
 }
 
 /// How coroutines, generators and async generators stand in memory.
-#[derive(Clone, Copy)]
+#[derive(Debug, Clone, Copy, Drop, PartialEq, Eq)]
 pub enum Family {
     Apart(ApartPlaces),
     Inside(InsidePlaces),
@@ -165,14 +167,16 @@ pub struct Places {
 
 /// Whether `len` bytes at a place lie in a record.
 fn lies(place: u32, len: u32, size: u32) -> bool
-    ensures { IsTrue result ↔ (place + len ≤ size) }
+    ensures is { IsTrue result ↔ (place + len ≤ size) }
+    ensures told { result ≡ lies (place + len) size }
 {
     place as u64 + len as u64 <= size as u64
 }
 
 /// Whether the parts of a frame's stack lie in its record.
 fn is_sound_stack(stack: &ApartStack, size: u32) -> bool
-    ensures { IsTrue result ↔ IsSoundStack stack.now size }
+    ensures is { IsTrue result ↔ IsSoundStack stack.now size }
+    ensures told { result ≡ is_sound_stack stack.now size }
 {
     match *stack {
         ApartStack::Pointer { top } => lies(top, 8, size),
@@ -187,14 +191,16 @@ fn is_sound_stack(stack: &ApartStack, size: u32) -> bool
 
 /// Whether `len` bytes at a place behind another one lie in a record.
 fn lies_behind(first: u32, place: u32, len: u32, size: u32) -> bool
-    ensures { IsTrue result ↔ (first + place + len ≤ size) }
+    ensures is { IsTrue result ↔ (first + place + len ≤ size) }
+    ensures told { result ≡ lies (first + place + len) size }
 {
     first as u64 + place as u64 + len as u64 <= size as u64
 }
 
 /// Whether a place of one byte lies in a record, where there is such a place.
 fn lies_if_there(place: Option<u32>, size: u32) -> bool
-    ensures { IsTrue result ↔ IfSome place (λ place. place + 1 ≤ size) }
+    ensures is { IsTrue result ↔ IfSome place (λ place. place + 1 ≤ size) }
+    ensures told { result ≡ lies_if_there place size }
 {
     match place {
         None => true,
@@ -203,7 +209,8 @@ fn lies_if_there(place: Option<u32>, size: u32) -> bool
 }
 
 fn is_sound_apart(places: &ApartPlaces) -> bool
-    ensures { IsTrue result ↔ IsSoundApart places.now }
+    ensures is { IsTrue result ↔ IsSoundApart places.now }
+    ensures told { result ≡ is_sound_apart places.now }
 {
     let (size, frame_size) = (places.size, places.frame_size);
     lies(places.frame, 8, size)
@@ -216,7 +223,8 @@ fn is_sound_apart(places: &ApartPlaces) -> bool
 }
 
 fn is_sound_inside(places: &InsidePlaces) -> bool
-    ensures { IsTrue result ↔ IsSoundInside places.now }
+    ensures is { IsTrue result ↔ IsSoundInside places.now }
+    ensures told { result ≡ is_sound_inside places.now }
 {
     let (frame, size) = (places.frame, places.size);
     lies(places.state, 1, size)
@@ -225,12 +233,20 @@ fn is_sound_inside(places: &InsidePlaces) -> bool
         && size < 65536
 }
 
+/// Whether what is read of each record of coroutines lies inside it, and a record has fewer than 65536 bytes.
+pub fn is_sound_family(family: &Family) -> bool
+    ensures is { IsTrue result ↔ IsSoundFamily family.now }
+    ensures told { result ≡ is_sound_family family.now }
+{
+    match family {
+        Family::Apart(apart) => is_sound_apart(apart),
+        Family::Inside(inside) => is_sound_inside(inside),
+    }
+}
+
 /// Whether what is read of each record lies inside it, and a record has fewer than 65536 bytes.
 pub fn is_sound(places: &Places) -> bool
     ensures { IsTrue result ↔ IsSound places.now }
 {
-    match &places.family {
-        Family::Apart(apart) => is_sound_apart(apart),
-        Family::Inside(inside) => is_sound_inside(inside),
-    }
+    is_sound_family(&places.family)
 }

@@ -266,8 +266,9 @@ fn read_apart<P: ProcessMemory>(
     read_framed(alloc, process, places, framed)
 }
 
-/// Where the coroutine at an address stands. At most 2 reads.
-pub(crate) fn read_standing<P: ProcessMemory>(
+/// Where the coroutine, generator or async generator at an address stands. A record that is not in memory is
+/// `Unreadable`. At most 2 reads.
+pub fn read_standing<P: ProcessMemory>(
     alloc: Global,
     process: &mut P,
     family: &Family,

@@ -11,3 +11,4 @@ pub mod Opening
 pub mod Picking
 pub mod Held
 pub mod Attributing
+pub mod Nones

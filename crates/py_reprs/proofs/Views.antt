@@ -1,6 +1,8 @@
 -- A value that was read, level by level, and the tree that it is.
 use Rattle.std.proofs.Common.{◌≡◌, ℕ, List, Option, Vec, Global, Bool, rules, map}
 use Rattle.std.specs.Prelude.{ℤ}
+use Rattle.py_reprs.specs.declared.coroutines.CoroutineForm.{CoroutineForm}
+use Rattle.py_reprs.specs.declared.coroutines.CoroutineState.{CoroutineState}
 use Rattle.py_reprs.specs.declared.kinds.Kind.{Kind}
 use Rattle.py_reprs.specs.declared.repr.BytesForm.{BytesForm}
 use Rattle.py_reprs.specs.declared.repr.IntegerForm.{IntegerForm}
@@ -9,7 +11,7 @@ use Rattle.py_reprs.specs.declared.repr.TextForm.{TextForm}
 use Rattle.py_reprs.specs.declared.repr.Repr.{Repr, the_lemmas}
 use Rattle.py_reprs.specs.declared.repr.Repr.TheVariants as read
 use Rattle.py_reprs.specs.Trees.{tree_of, trees_of}
-use Rattle.py_reprs.specs.Trees.Tree.{Absent, Nothing, Ellipsis, NotImplemented, Truth, Integer, SmallInteger, HugeInteger, Float, Complex, Text, Bytes, Items, Pairs, Class, Function, Builtin, Module, Opaque, Instance, Lost, Damaged}
+use Rattle.py_reprs.specs.Trees.Tree.{Absent, Nothing, Ellipsis, NotImplemented, Truth, Integer, SmallInteger, HugeInteger, Float, Complex, Text, Bytes, Items, Pairs, Class, Function, Builtin, Module, Coroutine, Opaque, Instance, Lost, Damaged}
 
 pub tree-Absent : tree_of read.Absent ≡ Absent
 tree-Absent = search (rules, the_lemmas)
@@ -71,6 +73,10 @@ tree-Builtin name addr = search (rules, the_lemmas)
 
 pub tree-Module : (name : Option (List ℕ)) (addr : ℕ) → tree_of (read.Module name addr) ≡ Module name addr
 tree-Module name addr = search (rules, the_lemmas)
+
+pub tree-Coroutine : (form : CoroutineForm) (name : Option (List ℕ)) (state : Option CoroutineState) (addr : ℕ)
+    → tree_of (read.Coroutine form name state addr) ≡ Coroutine form name state addr
+tree-Coroutine form name state addr = search (rules, the_lemmas)
 
 pub tree-Opaque : (class : Option (List ℕ)) (addr : ℕ) → tree_of (read.Opaque class addr) ≡ Opaque class addr
 tree-Opaque class addr = search (rules, the_lemmas)

@@ -6,6 +6,7 @@ use Rattle.std.specs.Prelude.{ℕ, ◌==◌, Bool, true, false, Option, Some, No
 use Rattle.py_fields.specs.declared.layout.Layout.{Layout}
 use Rattle.py_builtins.specs.declared.types.ObjectType.{ObjectType}
 use Rattle.py_builtins.specs.Texts.{bit_is_set}
+use Rattle.py_reprs.specs.declared.coroutines.CoroutineForm.TheVariants as form
 use Rattle.py_reprs.specs.declared.kinds.Kind.{Kind}
 use Rattle.py_reprs.specs.declared.kinds.Kind.TheVariants as kind
 use Rattle.py_reprs.specs.declared.kinds.ReprTypes.{ReprTypes}
@@ -54,6 +55,14 @@ called_kind t a other =
     else if is_at t.module a then kind.Module
     else other
 
+-- the same among those whose functions stop and go on
+unfoldable pub paused_kind : ReprTypes → ℕ → Kind → Kind
+paused_kind t a other =
+    if is_at t.coroutine a then kind.Coroutine form.Coroutine
+    else if is_at t.generator a then kind.Coroutine form.Generator
+    else if is_at t.async_generator a then kind.Coroutine form.AsyncGenerator
+    else other
+
 -- the same among those that hold others or bytes
 unfoldable pub holding_kind : ReprTypes → ℕ → Kind → Kind
 holding_kind t a other =
@@ -84,5 +93,5 @@ held_kind false t a other = holding_kind t a other
 
 unfoldable pub kind_of : Layout → ReprTypes → ObjectType → Kind
 kind_of l t class =
-    single_kind t class.at (held_kind (is_python_2 l) t class.at (called_kind t class.at
-    (flagged_kind (is_python_2 l) class.flags)))
+    single_kind t class.at (held_kind (is_python_2 l) t class.at (paused_kind t class.at (called_kind t class.at
+    (flagged_kind (is_python_2 l) class.flags))))

@@ -26,7 +26,10 @@ use Rattle.py_reprs.specs.declared.limits.Limits.{Limits}
 use Rattle.py_reprs.specs.declared.repr.ItemsForm.{ItemsForm}
 use Rattle.py_reprs.specs.declared.repr.ItemsForm.TheVariants as form
 use Rattle.py_reprs.specs.declared.attributes.InstanceRule.{InstanceRule}
+use Rattle.py_reprs.specs.declared.coroutines.CoroutineForm.{CoroutineForm}
+use Rattle.py_reprs.specs.declared.coroutines.CoroutineRule.{CoroutineRule}
 use Rattle.py_reprs.specs.Attributes.{attributes_at, found_or_none, instance_by}
+use Rattle.py_reprs.specs.Coroutines.{coroutine_at}
 use Rattle.py_reprs.specs.Kinds.{is_python_2, kind_of}
 use Rattle.py_reprs.specs.LevelForms.{Level, Whole, Row, Entries, Attributes}
 use Rattle.py_reprs.specs.Limits.{share, shown_count}
@@ -86,19 +89,26 @@ unfoldable pub other_level_at : Layout → Limits → Memory → Option Instance
 other_level_at l b m None nodes name a = leaf_level_at l b m name a kind.Other
 other_level_at l b m (Some r) nodes name a = Ok (instance_at l b m r nodes name a)
 
+-- a coroutine, a generator or an async generator, which is shown whole
+unfoldable pub coroutine_level_at : Layout → Memory → Option CoroutineRule → CoroutineForm → (addr : ℕ) → Found Level
+coroutine_level_at l m r form a = do
+  t ← coroutine_at l m r form a
+  Ok (Whole t)
+
 -- a value of a kind
-unfoldable pub kind_level_at : Layout → Limits → Memory → Option InstanceRule → (nodes name addr : ℕ) → Kind → Found Level
-kind_level_at l b m r nodes name a kind.List = items_level_at l b m form.List sequence.List nodes a
-kind_level_at l b m r nodes name a kind.Tuple = items_level_at l b m form.Tuple sequence.Tuple nodes a
-kind_level_at l b m r nodes name a kind.Range = fields_level_at l b m form.Range nodes 3 a
-kind_level_at l b m r nodes name a kind.Slice = fields_level_at l b m form.Slice nodes 3 a
-kind_level_at l b m r nodes name a kind.Cell = fields_level_at l b m form.Cell nodes 1 a
-kind_level_at l b m r nodes name a kind.Method = fields_level_at l b m form.Method nodes 2 a
-kind_level_at l b m r nodes name a kind.Dict = dict_level_at l b m nodes a
-kind_level_at l b m r nodes name a kind.Set = set_level_at l b m form.Set nodes a
-kind_level_at l b m r nodes name a kind.FrozenSet = set_level_at l b m form.FrozenSet nodes a
-kind_level_at l b m r nodes name a kind.Other = other_level_at l b m r nodes name a
-kind_level_at l b m r nodes name a k = leaf_level_at l b m name a k
+unfoldable pub kind_level_at : Layout → ReprTypes → Limits → Memory → (nodes name addr : ℕ) → Kind → Found Level
+kind_level_at l t b m nodes name a kind.List = items_level_at l b m form.List sequence.List nodes a
+kind_level_at l t b m nodes name a kind.Tuple = items_level_at l b m form.Tuple sequence.Tuple nodes a
+kind_level_at l t b m nodes name a kind.Range = fields_level_at l b m form.Range nodes 3 a
+kind_level_at l t b m nodes name a kind.Slice = fields_level_at l b m form.Slice nodes 3 a
+kind_level_at l t b m nodes name a kind.Cell = fields_level_at l b m form.Cell nodes 1 a
+kind_level_at l t b m nodes name a kind.Method = fields_level_at l b m form.Method nodes 2 a
+kind_level_at l t b m nodes name a kind.Dict = dict_level_at l b m nodes a
+kind_level_at l t b m nodes name a kind.Set = set_level_at l b m form.Set nodes a
+kind_level_at l t b m nodes name a kind.FrozenSet = set_level_at l b m form.FrozenSet nodes a
+kind_level_at l t b m nodes name a (kind.Coroutine form) = coroutine_level_at l m t.coroutines form a
+kind_level_at l t b m nodes name a kind.Other = other_level_at l b m t.instances nodes name a
+kind_level_at l t b m nodes name a k = leaf_level_at l b m name a k
 
 abbrev pub fault_tree : Kind → ℕ → Fault → Tree
 fault_tree k a (Missing at len) = Lost k at len
@@ -111,7 +121,7 @@ told k a (Err f) = Whole (fault_tree k a f)
 
 abbrev pub level_by : Layout → ReprTypes → Limits → Memory → (nodes addr : ℕ) → Found ObjectType → Level
 level_by l t b m nodes a (Ok class) =
-    told (kind_of l t class) a (kind_level_at l b m t.instances nodes class.name a (kind_of l t class))
+    told (kind_of l t class) a (kind_level_at l t b m nodes class.name a (kind_of l t class))
 level_by l t b m nodes a (Err f) = told kind.Other a (Err f)
 
 -- the value at an address

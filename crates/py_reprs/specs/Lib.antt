@@ -6,6 +6,7 @@ pub mod Found
 pub mod Numbers
 pub mod Texts
 pub mod Names
+pub mod Coroutines
 pub mod Places
 pub mod LevelForms
 pub mod Attributes

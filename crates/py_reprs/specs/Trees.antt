@@ -1,5 +1,7 @@
 -- Values as they are shown: trees. What a tree says of each kind is this project's own.
 use Rattle.std.specs.Prelude.{ℕ, ℤ, Bool, Option, List, [], ◌∷◌}
+use Rattle.py_reprs.specs.declared.coroutines.CoroutineForm.{CoroutineForm}
+use Rattle.py_reprs.specs.declared.coroutines.CoroutineState.{CoroutineState}
 use Rattle.py_reprs.specs.declared.kinds.Kind.{Kind}
 use Rattle.py_reprs.specs.declared.repr.BytesForm.{BytesForm}
 use Rattle.py_reprs.specs.declared.repr.IntegerForm.{IntegerForm}
@@ -29,6 +31,7 @@ mutual
     Function : (name file : Option (List ℕ)) → (line addr : ℕ) → Tree
     Builtin : (name : Option (List ℕ)) → (addr : ℕ) → Tree
     Module : (name : Option (List ℕ)) → (addr : ℕ) → Tree
+    Coroutine : CoroutineForm → (name : Option (List ℕ)) → Option CoroutineState → (addr : ℕ) → Tree
     Opaque : (class : Option (List ℕ)) → (addr : ℕ) → Tree
     Instance : (class : Option (List ℕ)) → (addr : ℕ) → (names values : Trees) → (left_out : ℕ) → Tree
     Lost : Kind → (addr len : ℕ) → Tree
@@ -63,6 +66,7 @@ tree_step (Repr-F.Class name addr) = Class name addr
 tree_step (Repr-F.Function name file line addr) = Function name file line addr
 tree_step (Repr-F.Builtin name addr) = Builtin name addr
 tree_step (Repr-F.Module name addr) = Module name addr
+tree_step (Repr-F.Coroutine form name state addr) = Coroutine form name state addr
 tree_step (Repr-F.Opaque class addr) = Opaque class addr
 tree_step (Repr-F.Instance class addr names values left_out) =
     Instance class addr (trees_of names.items) (trees_of values.items) left_out

@@ -2,9 +2,10 @@
 ghost use Rattle.std.specs.Prelude.{◌≡◌, ◌<◌};
 ghost use Rattle.py_builtins.specs.Texts.{bit_is_set};
 ghost use Rattle.py_reprs.specs.Kinds.{called_kind, flagged_kind, held_kind, holding_kind, is_at, is_python_2, kind_of};
-ghost use Rattle.py_reprs.specs.Kinds.{python_2_kind, python_3_kind, single_kind};
+ghost use Rattle.py_reprs.specs.Kinds.{paused_kind, python_2_kind, python_3_kind, single_kind};
 
 use crate::attributes::InstanceRule;
+use crate::coroutines::{CoroutineForm, CoroutineRule};
 use py_builtins::ObjectType;
 use py_fields::Layout;
 
@@ -43,6 +44,8 @@ pub enum Kind {
     Method,
     Builtin,
     Module,
+    /// A coroutine, a generator or an async generator.
+    Coroutine(CoroutineForm),
     /// An object of another type, and one whose type is not known.
     Other,
 }
@@ -73,8 +76,13 @@ pub struct ReprTypes {
     /// `builtin_function_or_method`.
     pub builtin: Option<u64>,
     pub module: Option<u64>,
+    pub coroutine: Option<u64>,
+    pub generator: Option<u64>,
+    pub async_generator: Option<u64>,
     /// By what the attributes of objects of another type are found; none where they are not shown.
     pub instances: Option<InstanceRule>,
+    /// By what the names and the states of coroutines are read; none where they are not shown.
+    pub coroutines: Option<CoroutineRule>,
 }
 
 /// Whether a layout is that of a Python 2.
@@ -175,6 +183,22 @@ fn called_kind(types: &ReprTypes, at: u64, other: Kind) -> Kind
     }
 }
 
+/// The same among those whose functions stop and go on.
+#[tactic(auto, unfolding(crate::specs::Kinds::paused_kind))]
+fn paused_kind(types: &ReprTypes, at: u64, other: Kind) -> Kind
+    ensures { result ≡ paused_kind types.now at other }
+{
+    if is_at(types.coroutine, at) {
+        Kind::Coroutine(CoroutineForm::Coroutine)
+    } else if is_at(types.generator, at) {
+        Kind::Coroutine(CoroutineForm::Generator)
+    } else if is_at(types.async_generator, at) {
+        Kind::Coroutine(CoroutineForm::AsyncGenerator)
+    } else {
+        other
+    }
+}
+
 /// The same among those that hold others or bytes.
 #[tactic(auto, unfolding(crate::specs::Kinds::holding_kind))]
 fn holding_kind(types: &ReprTypes, at: u64, other: Kind) -> Kind
@@ -236,6 +260,7 @@ pub(crate) fn kind_of(layout: &Layout, types: &ReprTypes, class: &ObjectType) ->
 {
     let flagged = flagged_kind(is_python_2(layout), class.flags);
     let called = called_kind(types, class.at, flagged);
-    let holding = held_kind(is_python_2(layout), types, class.at, called);
+    let paused = paused_kind(types, class.at, called);
+    let holding = held_kind(is_python_2(layout), types, class.at, paused);
     single_kind(types, class.at, holding)
 }

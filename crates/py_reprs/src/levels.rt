@@ -5,7 +5,7 @@ ghost use Rattle.py_fields.specs.Sound.{IsSound};
 ghost use Rattle.py_builtins.specs.ObjectError.{object_fault};
 ghost use Rattle.py_reprs.specs.Found.{trees_found};
 ghost use Rattle.py_reprs.specs.Attributes.{attributes_level, held, held_if, instance_by};
-ghost use Rattle.py_reprs.specs.Levels.{instance_at, other_level_at};
+ghost use Rattle.py_reprs.specs.Levels.{coroutine_level_at, instance_at, other_level_at};
 ghost use Rattle.py_reprs.specs.Levels.{FitsIn, Tells, fields_level_at, items_level_at, kind_level_at, leaf_at};
 ghost use Rattle.py_reprs.specs.LevelForms.{Whole};
 ghost use Rattle.py_reprs.specs.Levels.{leaf_level_at, level_at, level_by, level_of, levels_found, row_at};
@@ -17,6 +17,7 @@ ghost use Rattle.py_reprs.specs.Values.{level_cost};
 use crate::attributes::{
     InstanceAttributes, InstanceRule, attribute_values, names_of, read_attributes,
 };
+use crate::coroutines::{CoroutineForm, CoroutineRule, read_coroutine};
 use crate::error::ReprError;
 use crate::kinds::{Kind, ReprTypes, is_python_2, kind_of};
 use crate::limits::{Limits, share, shown_count, shown_entries};
@@ -294,6 +295,7 @@ fn read_leaf<P: ProcessMemory>(
         Kind::Method => read_opaque(alloc, process, name, addr),
         Kind::Builtin => read_opaque(alloc, process, name, addr),
         Kind::Module => read_opaque(alloc, process, name, addr),
+        Kind::Coroutine(_) => read_opaque(alloc, process, name, addr),
         Kind::Other => read_opaque(alloc, process, name, addr),
     }
 }
@@ -429,13 +431,32 @@ fn read_other<P: ProcessMemory>(
     }
 }
 
+/// The coroutine, generator or async generator at an address, which is shown whole. At most 5 reads.
+fn read_coroutine_level<P: ProcessMemory>(
+    alloc: Global,
+    process: &mut P,
+    layout: &Layout,
+    rule: Option<CoroutineRule>,
+    nodes: u32,
+    form: CoroutineForm,
+    addr: u64,
+) -> Result<Level, ObjectError>
+    requires sound { IsSound layout.now }
+    ensures answer { Reads object_fault 5 (P.seen process.old) (P.seen process.new)
+        (λ m. coroutine_level_at layout.now m rule form addr) (levels_found result) }
+    ensures few { IfOk result (λ level. FitsIn nodes (level_of level)) }
+{
+    let value = read_coroutine(alloc, process, layout, rule, form, addr)?;
+    Ok(Level::Whole(value))
+}
+
 /// The value of a kind at an address, of a type whose name stands at another.
 fn read_kind<P: ProcessMemory>(
     alloc: Global,
     process: &mut P,
     layout: &Layout,
+    types: &ReprTypes,
     limits: &Limits,
-    instances: Option<InstanceRule>,
     nodes: u32,
     name: u64,
     addr: u64,
@@ -443,7 +464,7 @@ fn read_kind<P: ProcessMemory>(
 ) -> Result<Level, ObjectError>
     requires sound { IsSound layout.now }
     ensures answer { Reads object_fault (level_cost limits.now - 2) (P.seen process.old) (P.seen process.new)
-        (λ m. kind_level_at layout.now limits.now m instances nodes name addr kind) (levels_found result) }
+        (λ m. kind_level_at layout.now types.now limits.now m nodes name addr kind) (levels_found result) }
     ensures few { IfOk result (λ level. FitsIn nodes (level_of level)) }
 {
     match kind {
@@ -668,7 +689,25 @@ fn read_kind<P: ProcessMemory>(
             addr,
             Kind::Module,
         ),
-        Kind::Other => read_other(alloc, process, layout, limits, instances, nodes, name, addr),
+        Kind::Coroutine(form) => read_coroutine_level(
+            alloc,
+            process,
+            layout,
+            types.coroutines,
+            nodes,
+            form,
+            addr,
+        ),
+        Kind::Other => read_other(
+            alloc,
+            process,
+            layout,
+            limits,
+            types.instances,
+            nodes,
+            name,
+            addr,
+        ),
     }
 }
 
@@ -720,15 +759,7 @@ fn read_typed<P: ProcessMemory>(
 {
     let kind = kind_of(layout, types, class);
     let found = read_kind(
-        alloc,
-        process,
-        layout,
-        limits,
-        types.instances,
-        nodes,
-        class.name,
-        addr,
-        kind,
+        alloc, process, layout, types, limits, nodes, class.name, addr, kind,
     );
     tell(kind, addr, found)
 }

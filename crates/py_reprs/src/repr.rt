@@ -1,4 +1,5 @@
 //! Values as they are shown: trees.
+use crate::coroutines::{CoroutineForm, CoroutineState};
 use crate::kinds::Kind;
 use elf64_core::Text;
 
@@ -129,6 +130,14 @@ pub enum Repr {
     },
     Module {
         name: Option<Text>,
+        addr: u64,
+    },
+    /// A coroutine, a generator or an async generator: its name, and how far it has come. Each is none where it can't
+    /// be read.
+    Coroutine {
+        form: CoroutineForm,
+        name: Option<Text>,
+        state: Option<CoroutineState>,
         addr: u64,
     },
     /// An object of another type, by the name of that as `tp_name` has it; none where that is no text.

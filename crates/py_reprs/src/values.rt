@@ -20,8 +20,10 @@ use std::alloc::Global;
 ///
 /// It is told what it is by the address of its type, else by the flags of that, else it is an object of another type:
 /// its class's name and its address are shown, and its first attributes with their names, as the entries of a dict are,
-/// where it has some that can be read and it is said how instances have theirs (`ReprTypes::instances`). A text and bytes show their first characters, and a container its first items, each
-/// as a value, with how much is left out. Of so many nodes each of a container's shown items has an equal share for the
+/// where it has some that can be read and it is said how instances have theirs (`ReprTypes::instances`). A coroutine, a
+/// generator and an async generator show their names and how far they have come, where that can be read and it is said
+/// how they stand (`ReprTypes::coroutines`). A text and bytes show their first characters, and a container its first
+/// items, each as a value, with how much is left out. Of so many nodes each of a container's shown items has an equal share for the
 /// values within it, less the items themselves; below the last level, and where no node is left, nothing of a container is
 /// shown but how many items it has. So a list of itself ends.
 ///

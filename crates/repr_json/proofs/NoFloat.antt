@@ -9,10 +9,11 @@ use Rattle.serde_json.specs.Written.{has_float, items_have_float}
 use Rattle.py_reprs.specs.Trees.{Tree, Trees}
 use Rattle.py_reprs.specs.Trees.Tree.{Absent, Nothing, Ellipsis, NotImplemented, Truth, Integer, SmallInteger}
 use Rattle.py_reprs.specs.Trees.Tree.{HugeInteger, Float, Complex, Text, Bytes, Items, Pairs, Class, Function, Builtin}
-use Rattle.py_reprs.specs.Trees.Tree.{Module, Opaque, Instance, Lost, Damaged}
+use Rattle.py_reprs.specs.Trees.Tree.{Module, Coroutine, Opaque, Instance, Lost, Damaged}
 use Rattle.py_reprs.specs.Trees.Trees.{no_trees, tree}
 use Rattle.repr_json.specs.Leaves.{instance_tree, name_tree, number_or_text, signed, small_integer_tree, small_number}
-use Rattle.repr_json.specs.Leaves.{complex_tree, part_tree}
+use Rattle.repr_json.specs.Leaves.{complex_tree, part_tree, state_tree}
+use Rattle.py_reprs.specs.declared.coroutines.CoroutineState.{CoroutineState}
 use Rattle.repr_json.specs.Trees.{AreJson, IsJson, items_kind, items_tree, pair_trees, pair_tree}
 
 or_first : (a b : Bool) → (a || b) ≡ false → a ≡ false
@@ -64,6 +65,10 @@ instance : (class : Option (List ℕ)) (addr : ℕ) (parts : List Data) (n : ℕ
 instance class addr parts n h = or_both (items_have_float (items_of parts)) (has_float (name_tree class) || false) h
     (ap (λ b. b || false) (name class))
 
+state : (s : Option CoroutineState) → has_float (state_tree s) ≡ false
+state None = refl
+state (Some s) = refl
+
 mutual
   unfolding IsJson
 
@@ -93,6 +98,8 @@ mutual
       ∙ (λ i. name file i || (false || (false || (name n i || false))))
   no_float (Builtin n addr) d is = ap has_float is ∙ ap (λ b. b || false) (name n)
   no_float (Module n addr) d is = ap has_float is ∙ ap (λ b. b || false) (name n)
+  no_float (Coroutine form n s addr) d is = ap has_float is
+      ∙ ap (λ b. b || (has_float (state_tree s) || false)) (name n) ∙ ap (λ b. b || false) (state s)
   no_float (Opaque class addr) d is = ap has_float is ∙ ap (λ b. b || false) (name class)
   no_float (Instance class addr names values left_out) d is = ap has_float is.4
       ∙ instance class addr (pair_trees is.0 is.1) left_out

@@ -10,6 +10,10 @@ use Rattle.serde_json.specs.Data.{Data, Members, array, boolean, member, no_memb
 use Rattle.serde_json.specs.Find.{of_integer}
 use Rattle.serde_json.specs.View.{items_of}
 use Rattle.python_literals.specs.Integers.{integer_text}
+use Rattle.py_reprs.specs.declared.coroutines.CoroutineForm.{CoroutineForm}
+use Rattle.py_reprs.specs.declared.coroutines.CoroutineForm.TheVariants as form
+use Rattle.py_reprs.specs.declared.coroutines.CoroutineState.{CoroutineState}
+use Rattle.py_reprs.specs.declared.coroutines.CoroutineState.TheVariants as state
 use Rattle.py_reprs.specs.declared.kinds.Kind.{Kind}
 use Rattle.py_reprs.specs.declared.kinds.Kind.TheVariants as kind
 use Rattle.py_reprs.specs.declared.repr.BytesForm.{BytesForm}
@@ -147,6 +151,32 @@ function_tree name file line addr = object (
     member (codes "line") (number (unsigned line)) (
     member (codes "name") (name_tree name) no_members)))))
 
+-- the word for what a coroutine is
+abbrev pub form_word : CoroutineForm → List ℕ
+form_word form.Coroutine = codes "coroutine"
+form_word form.Generator = codes "generator"
+form_word form.AsyncGenerator = codes "async generator"
+
+-- the word for how far one has come
+abbrev pub state_word : CoroutineState → List ℕ
+state_word state.Created = codes "created"
+state_word state.Suspended = codes "suspended"
+state_word state.Running = codes "running"
+state_word state.Finished = codes "finished"
+
+-- how far one has come, or null where that isn't known
+abbrev pub state_tree : Option CoroutineState → Data
+state_tree None = null
+state_tree (Some s) = string (state_word s)
+
+-- a coroutine, a generator or an async generator
+abbrev pub coroutine_tree : CoroutineForm → Option (List ℕ) → Option CoroutineState → ℕ → Data
+coroutine_tree f name s addr = object (
+    member (codes "address") (hex_tree addr) (
+    member (codes "kind") (string (form_word f)) (
+    member (codes "name") (name_tree name) (
+    member (codes "state") (state_tree s) no_members))))
+
 -- an object of another type
 abbrev pub opaque_tree : Option (List ℕ) → ℕ → Data
 opaque_tree class addr = object (
@@ -189,6 +219,7 @@ kind_word kind.Function = codes "function"
 kind_word kind.Method = codes "method"
 kind_word kind.Builtin = codes "builtin"
 kind_word kind.Module = codes "module"
+kind_word (kind.Coroutine f) = form_word f
 kind_word kind.Other = codes "object"
 
 -- bytes of a value that are not in memory

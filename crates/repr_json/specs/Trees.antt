@@ -9,8 +9,9 @@ use Rattle.py_reprs.specs.declared.repr.ItemsForm.TheVariants as items
 use Rattle.py_reprs.specs.Trees.{Tree, Trees}
 use Rattle.py_reprs.specs.Trees.Tree.{Absent, Nothing, Ellipsis, NotImplemented, Truth, Integer, SmallInteger}
 use Rattle.py_reprs.specs.Trees.Tree.{HugeInteger, Float, Complex, Text, Bytes, Items, Pairs, Class, Function, Builtin}
-use Rattle.py_reprs.specs.Trees.Tree.{Module, Opaque, Instance, Lost, Damaged}
+use Rattle.py_reprs.specs.Trees.Tree.{Module, Coroutine, Opaque, Instance, Lost, Damaged}
 use Rattle.py_reprs.specs.Trees.Trees.{no_trees, tree}
+use Rattle.repr_json.specs.Leaves.{coroutine_tree}
 use Rattle.repr_json.specs.Leaves.{bytes_tree, complex_tree, damaged_tree, float_tree, function_tree, huge_tree}
 use Rattle.repr_json.specs.Leaves.{instance_tree, integer_tree, kind_tree, lost_tree, named_tree, opaque_tree, part_tree}
 use Rattle.repr_json.specs.Leaves.{small_integer_tree, text_tree, truth_tree}
@@ -85,6 +86,7 @@ unfoldable mutual
   IsJson (Function name file line addr) d = d ≡ function_tree name file line addr
   IsJson (Builtin name addr) d = d ≡ named_tree (codes "builtin") name addr
   IsJson (Module name addr) d = d ≡ named_tree (codes "module") name addr
+  IsJson (Coroutine form name state addr) d = d ≡ coroutine_tree form name state addr
   IsJson (Opaque class addr) d = d ≡ opaque_tree class addr
   IsJson (Instance class addr names values left_out) d = (ns vs : List Data) × AreJson names ns × AreJson values vs
       × (d ≡ instance_tree class addr (pair_trees ns vs) left_out)

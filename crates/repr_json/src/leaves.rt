@@ -5,10 +5,11 @@ ghost use Rattle.serde_json.specs.View.{view};
 ghost use Rattle.repr_json.specs.Leaves.{bytes_kind, bytes_tree, character_of, characters, damaged_tree, function_tree};
 ghost use Rattle.repr_json.specs.Leaves.{hex_digit, hex_text, hex_tree, kind_tree, kind_word, lost_tree, name_tree};
 ghost use Rattle.repr_json.specs.Leaves.{instance_tree, named_tree, opaque_tree, text_kind, text_tree, truth_tree};
+ghost use Rattle.repr_json.specs.Leaves.{coroutine_tree, form_word, state_tree, state_word};
 
 use crate::numbers::valued;
 use elf64_core::Text;
-use py_reprs::{BytesForm, Kind, TextForm};
+use py_reprs::{BytesForm, CoroutineForm, CoroutineState, Kind, TextForm};
 use serde_json::{Value, json};
 use std::alloc::{AllocError, Global};
 
@@ -190,6 +191,61 @@ pub(crate) fn function_value(
     })
 }
 
+/// The word for what a coroutine is.
+fn form_word(form: CoroutineForm) -> &'static str
+    ensures { result.now ≡ form_word form }
+{
+    match form {
+        CoroutineForm::Coroutine => "coroutine",
+        CoroutineForm::Generator => "generator",
+        CoroutineForm::AsyncGenerator => "async generator",
+    }
+}
+
+/// The word for how far one has come.
+fn state_word(state: CoroutineState) -> &'static str
+    ensures { result.now ≡ state_word state }
+{
+    match state {
+        CoroutineState::Created => "created",
+        CoroutineState::Suspended => "suspended",
+        CoroutineState::Running => "running",
+        CoroutineState::Finished => "finished",
+    }
+}
+
+/// How far one has come, or null where that isn't known.
+fn state_value(alloc: Global, state: Option<CoroutineState>) -> Result<Value, AllocError>
+    ensures { IfOk result (λ own. view own ≡ state_tree state) }
+{
+    match state {
+        Some(state) => Value::try_from_str(alloc, state_word(state)),
+        None => Ok(Value::Null),
+    }
+}
+
+/// A coroutine, a generator or an async generator.
+pub(crate) fn coroutine_value(
+    alloc: Global,
+    form: CoroutineForm,
+    name: &Option<Text>,
+    state: Option<CoroutineState>,
+    addr: u64,
+) -> Result<Value, AllocError>
+    ensures { IfOk result (λ own. view own ≡ coroutine_tree form name.now state addr) }
+{
+    let address = hex_value(alloc, addr)?;
+    let name = name_value(alloc, name)?;
+    let state = state_value(alloc, state)?;
+    let kind = form_word(form);
+    json!(in alloc; {
+        "address": address,
+        "kind": kind,
+        "name": name,
+        "state": state
+    })
+}
+
 /// An object of another type.
 pub(crate) fn opaque_value(
     alloc: Global,
@@ -259,6 +315,7 @@ fn kind_word(kind: Kind) -> &'static str
         Kind::Method => "method",
         Kind::Builtin => "builtin",
         Kind::Module => "module",
+        Kind::Coroutine(form) => form_word(form),
         Kind::Other => "object",
     }
 }

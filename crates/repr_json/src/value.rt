@@ -6,8 +6,8 @@ ghost use Rattle.repr_json.specs.Leaves.{instance_tree};
 ghost use Rattle.repr_json.specs.Trees.{AreJson, IsJson, items_kind, items_tree, pair_tree, pair_trees};
 
 use crate::leaves::{
-    bytes_value, damaged_value, function_value, instance_value, kind_value, lost_value,
-    named_value, opaque_value, text_value, truth_value,
+    bytes_value, coroutine_value, damaged_value, function_value, instance_value, kind_value,
+    lost_value, named_value, opaque_value, text_value, truth_value,
 };
 use crate::numbers::{complex_value, float_value, huge_value, integer_value, small_integer_value};
 use elf64_core::Text;
@@ -162,6 +162,12 @@ pub fn repr_value(alloc: Global, value: &Repr) -> Result<Value, AllocError>
         } => function_value(alloc, name, file, *line, *addr),
         Repr::Builtin { name, addr } => named_value(alloc, "builtin", name, *addr),
         Repr::Module { name, addr } => named_value(alloc, "module", name, *addr),
+        Repr::Coroutine {
+            form,
+            name,
+            state,
+            addr,
+        } => coroutine_value(alloc, *form, name, *state, *addr),
         Repr::Opaque { class, addr } => opaque_value(alloc, class, *addr),
         Repr::Instance {
             class,

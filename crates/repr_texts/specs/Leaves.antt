@@ -17,6 +17,7 @@ use Rattle.py_reprs.specs.declared.repr.IntegerForm.{IntegerForm}
 use Rattle.py_reprs.specs.declared.repr.IntegerForm.TheVariants as integer
 use Rattle.py_reprs.specs.declared.repr.TextForm.{TextForm}
 use Rattle.py_reprs.specs.declared.repr.TextForm.TheVariants as text
+use Rattle.repr_texts.specs.Coroutines.{form_text}
 use Rattle.repr_texts.specs.Names.{address_text, name_text, quoted_name}
 
 abbrev pub truth_text : Bool → List ℕ
@@ -102,6 +103,7 @@ kind_text kind.Function = codes "function"
 kind_text kind.Method = codes "method"
 kind_text kind.Builtin = codes "built-in function"
 kind_text kind.Module = codes "module"
+kind_text (kind.Coroutine form) = form_text form
 kind_text kind.Other = codes "object"
 
 abbrev pub lost_text : Kind → ℕ → ℕ → List ℕ

@@ -1,4 +1,5 @@
 pub mod Names
 pub mod Identifiers
+pub mod Coroutines
 pub mod Leaves
 pub mod Writing

@@ -13,9 +13,10 @@ use Rattle.py_reprs.specs.Trees.{Tree, Trees}
 use Rattle.py_reprs.specs.Trees.Tree.{Absent, Nothing, Ellipsis, NotImplemented, Truth, Integer, SmallInteger}
 use Rattle.py_reprs.specs.Trees.Tree.{HugeInteger}
 use Rattle.py_reprs.specs.Trees.Tree.{Float, Complex, Text, Bytes, Items, Pairs, Class, Function, Builtin, Module}
-use Rattle.py_reprs.specs.Trees.Tree.{Opaque, Instance, Lost}
+use Rattle.py_reprs.specs.Trees.Tree.{Coroutine, Opaque, Instance, Lost}
 use Rattle.py_reprs.specs.Trees.Tree.{Damaged}
 use Rattle.py_reprs.specs.Trees.Trees.{no_trees, tree}
+use Rattle.repr_texts.specs.Coroutines.{coroutine_text}
 use Rattle.repr_texts.specs.Leaves.{builtin_text, bytes_text, class_text, damaged_text, function_text, huge_text}
 use Rattle.repr_texts.specs.Identifiers.{attribute_name}
 use Rattle.repr_texts.specs.Leaves.{instance_opening, lost_text}
@@ -153,6 +154,7 @@ unfoldable mutual
   Writes (Function name file line addr) t = t ≡ function_text name file line addr
   Writes (Builtin name addr) t = t ≡ builtin_text name
   Writes (Module name addr) t = t ≡ module_text name
+  Writes (Coroutine form name state addr) t = t ≡ coroutine_text form name state addr
   Writes (Opaque class addr) t = t ≡ opaque_text class addr
   Writes (Instance class addr names values left_out) t = (ns vs : List (List ℕ)) × WriteFirst names ns
       × WriteFirst values vs × (length ns ≡ min (count names) (count values))

@@ -6,6 +6,7 @@ ghost use Rattle.repr_texts.specs.Leaves.{kind_text, lost_text, module_text, opa
 ghost use Rattle.repr_texts.specs.Leaves.{rest_text, suffix_of, text_text, truth_text};
 ghost use Rattle.python_literals.specs.Integers.{integer_text};
 
+use crate::coroutines::form_word;
 use crate::names::{push_address, push_name, push_quoted_name};
 use elf64_core::Text;
 use py_reprs::{BytesForm, IntegerForm, Kind, TextForm};
@@ -256,6 +257,7 @@ fn kind_word(kind: Kind) -> &'static str
         Kind::Method => "method",
         Kind::Builtin => "built-in function",
         Kind::Module => "module",
+        Kind::Coroutine(form) => form_word(form),
         Kind::Other => "object",
     }
 }

@@ -57,7 +57,7 @@ fn push_in_quotes(alloc: Global, text: &mut String, chars: &[char]) -> Result<()
 }
 
 /// Appends a name: as it is, or in quotes where it could be taken for more than a name.
-fn push_known(alloc: Global, text: &mut String, name: &Text) -> Result<(), AllocError>
+pub(crate) fn push_known(alloc: Global, text: &mut String, name: &Text) -> Result<(), AllocError>
     ensures { OnOk result (string_bytes text.new ≡ string_bytes text.old ++ name_known name.now) }
 {
     let chars = characters(alloc, name)?;

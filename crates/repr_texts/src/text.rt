@@ -5,6 +5,7 @@ ghost use Rattle.repr_texts.specs.Writing.{Adds, AddsFull, AddsDict, AddsInstanc
 ghost use Rattle.repr_texts.specs.Writing.{Writes, between, between_text, closing};
 ghost use Rattle.repr_texts.specs.Writing.{comma_text, empty_text, is_empty_set, more_text, opening};
 
+use crate::coroutines::push_coroutine;
 use crate::identifiers::push_attribute_name;
 use crate::leaves::{
     push_builtin, push_bytes, push_class, push_damaged, push_digits, push_function, push_huge,
@@ -174,6 +175,12 @@ pub fn push_repr(alloc: Global, text: &mut String, value: &Repr) -> Result<(), A
         } => push_function(alloc, text, name, file, *line, *addr)?,
         Repr::Builtin { name, .. } => push_builtin(alloc, text, name)?,
         Repr::Module { name, .. } => push_module(alloc, text, name)?,
+        Repr::Coroutine {
+            form,
+            name,
+            state,
+            addr,
+        } => push_coroutine(alloc, text, *form, name, *state, *addr)?,
         Repr::Opaque { class, addr } => push_opaque(alloc, text, class, *addr)?,
         Repr::Instance { .. } => push_instance(alloc, text, value)?,
         Repr::Lost { kind, addr, len } => push_lost(text, *kind, *addr, *len)?,

@@ -24,7 +24,8 @@ type_symbols k =
     ∷ symbol_known k (codes "PyRange_Type") ∷ symbol_known k (codes "PySlice_Type")
     ∷ symbol_known k (codes "PyCell_Type") ∷ symbol_known k (codes "PyFunction_Type")
     ∷ symbol_known k (codes "PyMethod_Type") ∷ symbol_known k (codes "PyCFunction_Type")
-    ∷ symbol_known k (codes "PyModule_Type") ∷ []
+    ∷ symbol_known k (codes "PyModule_Type") ∷ symbol_known k (codes "PyCoro_Type")
+    ∷ symbol_known k (codes "PyGen_Type") ∷ symbol_known k (codes "PyAsyncGen_Type") ∷ []
 
 abbrev pub each_of : List (Option ℕ) → ℕ → Option ℕ
 each_of found number = get_or found number None
@@ -48,7 +49,11 @@ types_by classes types = record {
   method = each_of types 10;
   builtin = each_of types 11;
   «module» = each_of types 12;
+  coroutine = each_of types 13;
+  generator = each_of types 14;
+  async_generator = each_of types 15;
   instances = None;
+  coroutines = None;
 }
 
 -- each type by its own symbol, or by that of its object

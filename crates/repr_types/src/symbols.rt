@@ -31,7 +31,7 @@ fn value_symbols<M: ContainsAddr>(info: &PythonProcessInfo<M>) -> [Option<u64>; 
 }
 
 /// Those of the other types.
-fn type_symbols<M: ContainsAddr>(info: &PythonProcessInfo<M>) -> [Option<u64>; 13]
+fn type_symbols<M: ContainsAddr>(info: &PythonProcessInfo<M>) -> [Option<u64>; 16]
     ensures { result ≡ type_symbols (known_of info.now) }
 {
     [
@@ -48,6 +48,9 @@ fn type_symbols<M: ContainsAddr>(info: &PythonProcessInfo<M>) -> [Option<u64>; 1
         symbol_of(info, b"PyMethod_Type"),
         symbol_of(info, b"PyCFunction_Type"),
         symbol_of(info, b"PyModule_Type"),
+        symbol_of(info, b"PyCoro_Type"),
+        symbol_of(info, b"PyGen_Type"),
+        symbol_of(info, b"PyAsyncGen_Type"),
     ]
 }
 
@@ -82,7 +85,11 @@ fn types_by(classes: &[Option<u64>], types: &[Option<u64>]) -> ReprTypes
         method: each_of(types, 10),
         builtin: each_of(types, 11),
         module: each_of(types, 12),
+        coroutine: each_of(types, 13),
+        generator: each_of(types, 14),
+        async_generator: each_of(types, 15),
         instances: None,
+        coroutines: None,
     }
 }
 
@@ -92,14 +99,14 @@ fn types_by(classes: &[Option<u64>], types: &[Option<u64>]) -> ReprTypes
 /// `_Py_EllipsisObject` and `_Py_NotImplementedStruct`; each other type is what its own symbol names, if a type stands
 /// there. One whose symbol no image has, or of which a word is not in memory, is none.
 ///
-/// The one error is want of memory. At most 29 reads.
+/// The one error is want of memory. At most 35 reads.
 pub fn find_repr_types<M: ContainsAddr, P: ProcessMemory>(
     alloc: Global,
     info: &PythonProcessInfo<M>,
     process: &mut P,
     layout: &Layout,
 ) -> Result<ReprTypes, ReprError>
-    ensures { Reading 29 (P.seen process.old) (P.seen process.new)
+    ensures { Reading 35 (P.seen process.old) (P.seen process.new)
         (λ m. IfOk result (λ types. types ≡ repr_types_at (known_of info.now) layout.now m)) }
 {
     let values = value_symbols(info);

@@ -10,7 +10,7 @@ use std::alloc::{AllocError, Global};
 use std::collections::BTreeMap;
 use std::test::Fail;
 
-/// `type`, `bool`, the type of `None`, and `None`.
+/// `type`, `bool`, the type of `None`, `None`, and the type of generators.
 const TYPE: u64 = 0x1000;
 
 const BOOL: u64 = 0x1100;
@@ -18,6 +18,8 @@ const BOOL: u64 = 0x1100;
 const NONE_TYPE: u64 = 0x1200;
 
 const NONE: u64 = 0x1300;
+
+const GENERATOR: u64 = 0x1400;
 
 /// The flag of `type` and of what derives from it.
 const IS_TYPE: u64 = 1 << 31;
@@ -35,6 +37,7 @@ fn process(alloc: Global) -> Result<Part, AllocError> {
     pieces.push(piece(alloc, TYPE, &[1, TYPE, 0, 0, IS_TYPE])?)?;
     pieces.push(piece(alloc, BOOL, &[1, TYPE])?)?;
     pieces.push(piece(alloc, NONE, &[1, NONE_TYPE])?)?;
+    pieces.push(piece(alloc, GENERATOR, &[1, TYPE])?)?;
     Ok(Part::of(alloc, pieces))
 }
 
@@ -44,6 +47,7 @@ fn binary(alloc: Global) -> Result<BinaryInfo, Fail> {
     symbols.insert(Vec::from_slice(alloc, b"PyBool_Type")?, BOOL)?;
     symbols.insert(Vec::from_slice(alloc, b"_Py_NoneStruct")?, NONE)?;
     symbols.insert(Vec::from_slice(alloc, b"PyFloat_Type")?, NONE)?;
+    symbols.insert(Vec::from_slice(alloc, b"PyGen_Type")?, GENERATOR)?;
     symbols.insert(Vec::from_slice(alloc, b"PySet_Type")?, 0x9000)?;
     Ok(BinaryInfo {
         symbols,
@@ -85,7 +89,11 @@ fn symbols_name_types(rt: HostRuntime) -> Result<(), Fail> {
         method: None,
         builtin: None,
         module: None,
+        coroutine: None,
+        generator: Some(GENERATOR),
+        async_generator: None,
         instances: None,
+        coroutines: None,
     };
     assert!(rt; types == known);
     Ok(())

@@ -93,6 +93,13 @@ def quoted(tree: Tree) -> str:
     return "?" if tree.get("name") is None else repr(tree["name"])
 
 
+def coroutine_text(tree: Tree) -> str:
+    """A coroutine, a generator or an async generator: its name and how far it has come, where these are known."""
+    name = "" if tree["name"] is None else f" {named(tree)}"
+    state = "" if tree["state"] is None else f": {tree['state']}"
+    return f"<{tree['kind'].replace(' ', '_')}{name} at {tree['address']}{state}>"
+
+
 LEAVES: Dict[str, Callable[[Tree], str]] = {
     "hidden": lambda it: HIDDEN, "none": lambda it: "None", "ellipsis": lambda it: "Ellipsis", "not implemented": lambda it: "NotImplemented",
     "absent": lambda it: "empty", "bool": lambda it: str(it["value"]), "int": number_text, "long": number_text, "float": lambda it: str(it["text"]),
@@ -101,6 +108,7 @@ LEAVES: Dict[str, Callable[[Tree], str]] = {
     "bytes": bytes_text, "bytearray": bytes_text, "class": lambda it: f"<class {quoted(it)}>",
     "function": lambda it: f"<function {named(it)} at {it['address']} ({named(it, 'file')}:{it['line']})>",
     "builtin": lambda it: f"<built-in function {named(it)}>", "module": lambda it: f"<module {quoted(it)}>",
+    "coroutine": coroutine_text, "generator": coroutine_text, "async generator": coroutine_text,
     "object": lambda it: f"<{named(it, 'type')} at {it['address']}>",
     "unreadable": lambda it: f"<{it['of']}: {it['length']} bytes unreadable at {it['address']}>",
     "damaged": lambda it: f"<{it['of']}: broken at {it['address']}>",

@@ -99,6 +99,11 @@ pub returns-in-Module-clause-answer : goal.returns-in-Module-clause-answer
 unfolding kind_level_at
 returns-in-Module-clause-answer g c = rw c.in-Module.is (reads_within _ c.read_leaf_level-in-Module.ensures.answer (omega arith))
 
+pub returns-in-Coroutine-clause-answer : goal.returns-in-Coroutine-clause-answer
+unfolding kind_level_at
+returns-in-Coroutine-clause-answer g c =
+    rw c.in-Coroutine.is (reads_within _ c.read_coroutine_level.ensures.answer (omega arith))
+
 pub returns-in-Other-clause-answer : goal.returns-in-Other-clause-answer
 unfolding kind_level_at
 returns-in-Other-clause-answer g c = rw c.in-Other.is (reads_within _ c.read_other.ensures.answer (omega arith))

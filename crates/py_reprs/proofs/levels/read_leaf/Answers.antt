@@ -101,6 +101,10 @@ pub returns-in-Module : goal.returns-in-Module
 unfolding leaf_at
 returns-in-Module g c = rw c.in-Module.is (reads_within _ c.read_opaque-in-Module.ensures (omega arith))
 
+pub returns-in-Coroutine : goal.returns-in-Coroutine
+unfolding leaf_at
+returns-in-Coroutine g c = rw c.in-Coroutine.is (reads_within _ c.read_opaque-in-Coroutine.ensures (omega arith))
+
 pub returns-in-Other : goal.returns-in-Other
 unfolding leaf_at
 returns-in-Other g c = rw c.in-Other.is (reads_within _ c.read_opaque-in-Other.ensures (omega arith))

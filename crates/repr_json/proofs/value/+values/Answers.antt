@@ -8,7 +8,7 @@ use Rattle.py_reprs.specs.Trees.Trees.{no_trees}
 use Rattle.py_reprs.proofs.Views.{tree-Absent, tree-Nothing, tree-Ellipsis, tree-NotImplemented, tree-Truth}
 use Rattle.py_reprs.proofs.Views.{tree-Integer, tree-SmallInteger, tree-HugeInteger, tree-Float, tree-Complex}
 use Rattle.py_reprs.proofs.Views.{tree-Text, tree-Bytes, tree-Items, tree-Pairs, tree-Class, tree-Function}
-use Rattle.py_reprs.proofs.Views.{tree-Builtin, tree-Module, tree-Opaque, tree-Instance, tree-Lost, tree-Damaged}
+use Rattle.py_reprs.proofs.Views.{tree-Builtin, tree-Coroutine, tree-Module, tree-Opaque, tree-Instance, tree-Lost, tree-Damaged}
 use Rattle.repr_json.specs.Leaves.{bytes_tree, integer_tree, text_tree}
 use Rattle.repr_json.specs.Trees.{AreJson, IsJson, items_tree, items_kind}
 use Rattle.repr_json.proofs.Parts.{more_at, none_is}
@@ -104,6 +104,14 @@ repr_value-returns-in-Module t c =
     subst (λ v. IfOk c.named_value-in-Module.result (λ own. IsJson (tree_of v) (view own))) (sym c.in-Module.is)
     (subst (λ tree. IfOk c.named_value-in-Module.result (λ own. IsJson tree (view own))) (sym (tree-Module c.in-Module.name c.in-Module.addr))
     c.named_value-in-Module.ensures)
+
+pub repr_value-returns-in-Coroutine : goal.repr_value-returns-in-Coroutine
+unfolding IsJson
+repr_value-returns-in-Coroutine t c =
+    let it = c.in-Coroutine in
+    subst (λ v. IfOk c.coroutine_value.result (λ own. IsJson (tree_of v) (view own))) (sym it.is)
+    (subst (λ tree. IfOk c.coroutine_value.result (λ own. IsJson tree (view own)))
+    (sym (tree-Coroutine it.form it.name it.state it.addr)) c.coroutine_value.ensures)
 
 pub repr_value-returns-in-Opaque : goal.repr_value-returns-in-Opaque
 unfolding IsJson

@@ -9,7 +9,8 @@ use Rattle.py_reprs.proofs.Views.{tree-Integer}
 use Rattle.py_reprs.proofs.Views.{tree-SmallInteger, tree-HugeInteger, tree-Float, tree-Complex, tree-Text}
 use Rattle.py_reprs.proofs.Views.{tree-Bytes, tree-Items}
 use Rattle.py_reprs.proofs.Views.{tree-Pairs, tree-Class, tree-Function, tree-Builtin, tree-Module, tree-Opaque}
-use Rattle.py_reprs.proofs.Views.{tree-Instance, tree-Lost, tree-Damaged}
+use Rattle.py_reprs.proofs.Views.{tree-Coroutine, tree-Instance, tree-Lost, tree-Damaged}
+use Rattle.repr_texts.specs.Coroutines.{coroutine_text}
 use Rattle.repr_texts.specs.Leaves.{builtin_text, bytes_text, class_text, damaged_text, function_text, huge_text}
 use Rattle.repr_texts.specs.Leaves.{lost_text}
 use Rattle.repr_texts.specs.Leaves.{module_text, opaque_text, suffix_of, text_text, truth_text}
@@ -159,6 +160,17 @@ push_repr-returns-in_ok-push_module-in-Module t c =
       c.in_ok-push_module-in-Module.ensures,
       subst (λ v. Writes (tree_of v) shown) (sym c.in-Module.is)
           (subst (λ tree. Writes tree shown) (sym (tree-Module c.in-Module.name c.in-Module.addr)) refl),
+    )
+
+pub push_repr-returns-in_ok-push_coroutine-in-Coroutine : goal.push_repr-returns-in_ok-push_coroutine-in-Coroutine
+unfolding Writes
+push_repr-returns-in_ok-push_coroutine-in-Coroutine t c =
+    let it = c.in-Coroutine in
+    let shown = coroutine_text it.form it.name it.state it.addr in (
+      shown,
+      c.in_ok-push_coroutine-in-Coroutine.ensures,
+      subst (λ v. Writes (tree_of v) shown) (sym it.is)
+          (subst (λ tree. Writes tree shown) (sym (tree-Coroutine it.form it.name it.state it.addr)) refl),
     )
 
 pub push_repr-returns-in_ok-push_opaque-in-Opaque : goal.push_repr-returns-in_ok-push_opaque-in-Opaque

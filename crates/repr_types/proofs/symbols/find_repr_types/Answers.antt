@@ -10,7 +10,7 @@ pub returns-in_err-types : goal.returns-in_err-types
 returns-in_err-types g c =
     let p = err_from_is_err_and c.from_residual-in_err-types.result c.from_residual-in_err-types.ensures.1 in
     let values : length c.value_symbols-values.result ≡ 3 = ap length c.value_symbols-values.ensures in
-    let symbols : length c.type_symbols-symbols.result ≡ 13 = ap length c.type_symbols-symbols.ensures in
+    let symbols : length c.type_symbols-symbols.result ≡ 16 = ap length c.type_symbols-symbols.ensures in
     rw p.1 (reading_gives _ _ (reading_then _ c.in_ok-classes.ensures c.in_err-types.ensures (λ m a b. b))
     (omega (arith, values, symbols)) (λ m h. tt))
 
@@ -18,7 +18,7 @@ pub returns : goal.returns
 unfolding repr_types_at
 returns g c =
     let values : length c.value_symbols-values.result ≡ 3 = ap length c.value_symbols-values.ensures in
-    let symbols : length c.type_symbols-symbols.result ≡ 13 = ap length c.type_symbols-symbols.ensures in
+    let symbols : length c.type_symbols-symbols.result ≡ 16 = ap length c.type_symbols-symbols.ensures in
     reading_gives _ _
     (reading_then (λ m. c.types_by.result ≡ repr_types_at (known_of c.args.info.now) c.args.layout.now m)
     c.in_ok-classes.ensures c.in_ok-types.ensures (λ m a b.

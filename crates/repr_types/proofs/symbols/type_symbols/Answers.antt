@@ -16,4 +16,7 @@ returns g c =
     (cons_is c.symbol_of-10.ensures
     (cons_is c.symbol_of-11.ensures
     (cons_is c.symbol_of-12.ensures
-    (cons_is c.symbol_of-13.ensures refl))))))))))))
+    (cons_is c.symbol_of-13.ensures
+    (cons_is c.symbol_of-14.ensures
+    (cons_is c.symbol_of-15.ensures
+    (cons_is c.symbol_of-16.ensures refl)))))))))))))))
