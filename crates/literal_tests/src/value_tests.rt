@@ -1,6 +1,8 @@
 //! Values with values in them.
 use elf64_core::Text;
-use py_reprs::{BytesForm, IntegerForm, ItemsForm, Kind, Repr, TextForm};
+use py_reprs::{
+    BytesForm, CoroutineForm, CoroutineState, IntegerForm, ItemsForm, Kind, Repr, TextForm,
+};
 use repr_texts::push_repr;
 use std::alloc::{AllocError, Global};
 use std::test::Fail;
@@ -137,6 +139,30 @@ fn names_that_could_be_more_stand_in_quotes(rt: HostRuntime) -> Result<(), Fail>
     };
     let text = text_of(rt.alloc(), &forged)?;
     assert!(rt; text.as_str() == "<'x at 0x5> <y' at 0x10>", "{text}");
+    Ok(())
+}
+
+#[test]
+fn a_coroutine_has_its_name_and_its_state(rt: HostRuntime) -> Result<(), Fail> {
+    let fetch = Repr::Coroutine {
+        form: CoroutineForm::Coroutine,
+        name: Some(Text::of(rt.alloc(), "fetch")?),
+        state: Some(CoroutineState::Suspended),
+        addr: 16,
+    };
+    let text = text_of(rt.alloc(), &fetch)?;
+    assert!(rt;
+        text.as_str() == "<coroutine fetch at 0x10: suspended>",
+        "{text}"
+    );
+    let rows = Repr::Coroutine {
+        form: CoroutineForm::AsyncGenerator,
+        name: None,
+        state: None,
+        addr: 16,
+    };
+    let text = text_of(rt.alloc(), &rows)?;
+    assert!(rt; text.as_str() == "<async_generator at 0x10>", "{text}");
     Ok(())
 }
 

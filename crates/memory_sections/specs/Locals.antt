@@ -5,6 +5,7 @@ use Rattle.py_fields.specs.declared.layout.Layout.{Layout}
 use Rattle.py_fronts.specs.declared.salvaged.SalvagedInterpreter.{SalvagedInterpreter}
 use Rattle.py_process.specs.Facts.{Known}
 use Rattle.py_reprs.specs.declared.attributes.InstanceRule.{InstanceRule}
+use Rattle.py_reprs.specs.declared.coroutines.CoroutineRule.{CoroutineRule}
 use Rattle.py_reprs.specs.declared.kinds.ReprTypes.{ReprTypes}
 use Rattle.thread_names.specs.declared.own.DictRule.{DictRule}
 use Rattle.repr_types.specs.Symbols.{repr_types_at}
@@ -21,9 +22,9 @@ abbrev pub instances_of : Option DictRule → Option InstanceRule
 instances_of None = None
 instances_of (Some rule) = Some (record { fields = rule.fields; form = rule.form })
 
--- the same types, with by what attributes are found
-abbrev pub with_instances : ReprTypes → Option InstanceRule → ReprTypes
-with_instances t rule = record {
+-- the same types, with by what attributes are found, and names and states of coroutines
+abbrev pub with_rules : ReprTypes → Option InstanceRule → Option CoroutineRule → ReprTypes
+with_rules t instances coroutines = record {
   nothing = t.nothing;
   ellipsis = t.ellipsis;
   not_implemented = t.not_implemented;
@@ -40,15 +41,20 @@ with_instances t rule = record {
   method = t.method;
   builtin = t.builtin;
   «module» = t.module;
-  instances = rule;
+  coroutine = t.coroutine;
+  generator = t.generator;
+  async_generator = t.async_generator;
+  instances = instances;
+  coroutines = coroutines;
 }
 
--- by what values are told: the types that the symbols of the process's images name, and the rule of instances' dicts
-abbrev pub types_told : Option DictRule → Known → Layout → Memory → ReprTypes
-types_told rule k l m = with_instances (repr_types_at k l m) (instances_of rule)
+-- by what values are told: the types that the symbols of the process's images name, the rule of instances' dicts and
+-- that of coroutines
+abbrev pub types_told : Option DictRule → Option CoroutineRule → Known → Layout → Memory → ReprTypes
+types_told rule coroutines k l m = with_rules (repr_types_at k l m) (instances_of rule) coroutines
 
 -- the values of memory
-abbrev pub ValuesAre : (times : ℕ) → Known → Layout → Option DictRule → Memory → List SalvagedInterpreter
-    → Option LocalValues → Type 0
-ValuesAre times k l rule m is told =
-    ToldIf (not (nat_eq times 0)) (AreLocalValues l (types_told rule k l m) (levels_of times) m is) told
+abbrev pub ValuesAre : (times : ℕ) → Known → Layout → Option DictRule → Option CoroutineRule → Memory
+    → List SalvagedInterpreter → Option LocalValues → Type 0
+ValuesAre times k l rule coroutines m is told =
+    ToldIf (not (nat_eq times 0)) (AreLocalValues l (types_told rule coroutines k l m) (levels_of times) m is) told

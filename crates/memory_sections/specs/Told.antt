@@ -17,6 +17,10 @@ use Rattle.py_records.specs.declared.types.TypeRecords.{TypeRecords}
 use Rattle.py_records.specs.declared.types.KlassRecord.{KlassRecord}
 use Rattle.py_records.specs.declared.types.HeapTypeRecord.{HeapTypeRecord}
 use Rattle.task_sets.specs.Places.{form_of, instance_of}
+use Rattle.coroutine_frames.specs.Described.{family_of}
+use Rattle.py_coroutines.specs.declared.places.Family.{Family}
+use Rattle.py_records.specs.declared.coroutines.GeneratorRecord.{GeneratorRecord}
+use Rattle.py_reprs.specs.declared.coroutines.CoroutineRule.{CoroutineRule}
 use Rattle.thread_names.specs.Told.{names_shown, names_told}
 use Rattle.thread_names.specs.declared.own.DictRule.{DictRule}
 use Rattle.thread_names.specs.declared.names.InterpreterNames.{InterpreterNames}
@@ -54,6 +58,14 @@ rule_by l t _ _ = None
 
 abbrev pub rule_of : Layout → Records → Option DictRule
 rule_of l r = rule_by l r.types r.types.klass r.types.heap_type
+
+-- by what the names and the states of a version's coroutines are read, where its records say how these stand in memory
+abbrev pub coroutine_rule_by : Option GeneratorRecord → Option Family → Option CoroutineRule
+coroutine_rule_by (Some generator) (Some family) = Some (record { name = generator.name; family = family })
+coroutine_rule_by _ _ = None
+
+abbrev pub coroutine_rule_of : Layout → Records → Option CoroutineRule
+coroutine_rule_of l r = coroutine_rule_by r.coroutines.generator (family_of l r)
 
 -- the names that an interpreter keeps for its threads that are shown
 abbrev pub AreNamesOf : Layout → Option DictRule → Memory → SalvagedInterpreter → InterpreterNames → Type 0
@@ -113,5 +125,5 @@ pub record AreMemoryTold (asked : Sections) (times : ℕ) (bytes : List ℕ) (im
   pub waits : WaitsAre asked.waits bytes k l r m is told.waits
   pub native : NativeAre asked.native asked.strict bytes images m is told.native
   pub stacks : PairsAre bytes k v l r m is told.native told.stacks
-  pub values : ValuesAre times k l (rule_of l r) m is told.values
+  pub values : ValuesAre times k l (rule_of l r) (coroutine_rule_of l r) m is told.values
   pub heap : HeapIs asked.heap k v l r m is told.heap

@@ -6,16 +6,16 @@ ghost use Rattle.py_fields.specs.Sound.{IsSound};
 ghost use Rattle.py_process.specs.Facts.{known_of};
 ghost use Rattle.repr_types.specs.Symbols.{repr_types_at};
 ghost use Rattle.local_values.specs.Values.{AreLocalValues};
-ghost use Rattle.memory_sections.specs.Locals.{ValuesAre, instances_of, levels_of, types_told, with_instances};
-ghost use Rattle.memory_sections.specs.Told.{rule_of};
+ghost use Rattle.memory_sections.specs.Locals.{ValuesAre, instances_of, levels_of, types_told, with_rules};
+ghost use Rattle.memory_sections.specs.Told.{coroutine_rule_of, rule_of};
 
-use crate::rule::rule_of;
+use crate::rule::{coroutine_rule_of, rule_of};
 use core_stacks::Process;
 use local_values::{LocalValues, read_local_values};
 use missed_reads::{Missed, Misses};
 use py_fronts::SalvagedInterpreter;
 use py_records::Records;
-use py_reprs::{InstanceRule, ReprError, ReprTypes};
+use py_reprs::{CoroutineRule, InstanceRule, ReprError, ReprTypes};
 use repr_types::find_repr_types;
 use std::alloc::{AllocError, Global};
 use thread_names::DictRule;
@@ -54,25 +54,34 @@ fn instances_of(rule: Option<DictRule>) -> Option<InstanceRule>
     }
 }
 
-/// The same types, with by what attributes are found.
-fn with_instances(types: ReprTypes, instances: Option<InstanceRule>) -> ReprTypes
-    ensures { result ≡ with_instances types instances }
+/// The same types, with by what attributes are found, and names and states of coroutines.
+fn with_rules(
+    types: ReprTypes,
+    instances: Option<InstanceRule>,
+    coroutines: Option<CoroutineRule>,
+) -> ReprTypes
+    ensures { result ≡ with_rules types instances coroutines }
 {
-    ReprTypes { instances, ..types }
+    ReprTypes {
+        instances,
+        coroutines,
+        ..types
+    }
 }
 
-/// By what values are told, by the rule of instances' dicts. Reads that are refused are kept.
+/// By what values are told, by the rule of instances' dicts and that of coroutines. Reads that are refused are kept.
 fn types_told(
     alloc: Global,
     process: &Process,
     rule: Option<DictRule>,
+    coroutines: Option<CoroutineRule>,
     misses: &mut Misses,
 ) -> Result<ReprTypes, AllocError>
-    ensures { IfOk result (λ types. types ≡ types_told rule (known_of process.now.info) process.now.layout
-        (byte_at (regions_of process.now.dump))) }
+    ensures { IfOk result (λ types. types ≡ types_told rule coroutines (known_of process.now.info)
+        process.now.layout (byte_at (regions_of process.now.dump))) }
 {
     let types = own_types(alloc, process, misses)?;
-    Ok(with_instances(types, instances_of(rule)))
+    Ok(with_rules(types, instances_of(rule), coroutines))
 }
 
 /// The values, by so many `-l`. Reads that are refused are kept.
@@ -120,13 +129,15 @@ pub(crate) fn values_section(
 ) -> Result<Option<LocalValues>, AllocError>
     requires sound { IsSound process.now.layout }
     ensures { IfOk result (ValuesAre times (known_of process.now.info) process.now.layout
-        (rule_of process.now.layout records.now) (byte_at (regions_of process.now.dump)) interpreters.now) }
+        (rule_of process.now.layout records.now) (coroutine_rule_of process.now.layout records.now)
+        (byte_at (regions_of process.now.dump)) interpreters.now) }
 {
     if times == 0 {
         return Ok(None);
     }
     let rule = rule_of(&process.layout, records);
-    let types = types_told(alloc, process, rule, misses)?;
+    let coroutines = coroutine_rule_of(&process.layout, records);
+    let types = types_told(alloc, process, rule, coroutines, misses)?;
     let levels = levels_of(times);
     let values = own_values(alloc, process, misses, &types, levels, interpreters)?;
     Ok(Some(values))

@@ -1,11 +1,14 @@
-//! How the instances of a version's classes have their dicts, by its records.
+//! How the instances of a version's classes have their dicts, and how its coroutines stand, by its records.
 ghost use Rattle.std.specs.Prelude.{◌≡◌};
 ghost use Rattle.task_sets.specs.Places.{form_of, instance_of};
-ghost use Rattle.memory_sections.specs.Told.{rule_of};
+ghost use Rattle.memory_sections.specs.Told.{coroutine_rule_by, coroutine_rule_of, rule_of};
 
+use coroutine_frames::family_of;
 use instance_dicts::{DictForm, InstanceFields};
+use py_coroutines::Family;
 use py_fields::Layout;
-use py_records::{HeapTypeRecord, KlassRecord, Records, TypeRecords};
+use py_records::{GeneratorRecord, HeapTypeRecord, KlassRecord, Records, TypeRecords};
+use py_reprs::CoroutineRule;
 use thread_names::DictRule;
 
 /// The form, by which group of records the version has.
@@ -49,4 +52,29 @@ pub(crate) fn rule_of(layout: &Layout, records: &Records) -> Option<DictRule>
         }),
         _ => None,
     }
+}
+
+/// By what the names and the states of coroutines are read, by where a record has the name and how they stand.
+fn coroutine_rule_by(
+    generator: Option<GeneratorRecord>,
+    family: Option<Family>,
+) -> Option<CoroutineRule>
+    ensures { result ≡ coroutine_rule_by generator family }
+{
+    match (generator, family) {
+        (Some(generator), Some(family)) => Some(CoroutineRule {
+            name: generator.name,
+            family,
+        }),
+        _ => None,
+    }
+}
+
+/// By what the names and the states of a version's coroutines are read, by a layout and the version's records; none
+/// where these don't say how coroutines stand in memory.
+pub(crate) fn coroutine_rule_of(layout: &Layout, records: &Records) -> Option<CoroutineRule>
+    ensures { result ≡ coroutine_rule_of layout.now records.now }
+{
+    let family = family_of(layout, records);
+    coroutine_rule_by(records.coroutines.generator, family)
 }

@@ -27,7 +27,7 @@ use Rattle.memory_sections.specs.Heap.{AreHeaps}
 use Rattle.memory_sections.specs.Pairs.{ArePairs}
 use Rattle.py_heap.specs.declared.heap.Heaps.{Heaps}
 use Rattle.memory_sections.specs.Waits.{AreWaits}
-use Rattle.memory_sections.specs.Told.{AreNamesOf, AreNative, AreTasksOf, rule_of, slot_share}
+use Rattle.memory_sections.specs.Told.{AreNamesOf, AreNative, AreTasksOf, coroutine_rule_of, rule_of, slot_share}
 use Rattle.native_stacks.specs.declared.stacks.NativeStacks.{NativeStacks}
 use Rattle.paired_stacks.specs.declared.stack.PairedStack.{PairedStack}
 use Rattle.py_records.specs.Versions.{records_of}
@@ -181,15 +181,17 @@ pub record SaysHeap (s : Salvage) (told : Told) (old new : SinkSeen) : Type 0 wh
       (memory_in has.opened.dumped) has.left.salvaged.interpreters.items heaps
 
 -- The values of the locals of the frames that are shown, by so many `-l`: those of memory, by the types that the
--- symbols of the process's images name, and with the attributes of instances where the records that the tables have for
--- the version say how these have their dicts (`repr_at` of py_reprs), and of each its text and, where JSON is asked
--- for, its JSON (`Writes` of repr_texts, `IsJson` of repr_json).
+-- symbols of the process's images name, with the attributes of instances where the records that the tables have for
+-- the version say how these have their dicts, and with the names and the states of coroutines and generators where they
+-- say how these stand in memory (`repr_at` of py_reprs); and of each its text and, where JSON is asked for, its JSON
+-- (`Writes` of repr_texts, `IsJson` of repr_json).
 pub record SaysValues (s : Salvage) (told : Told) (old new : SinkSeen) : Type 0 where
   pub has : HasSalvaged s told old new
   pub values : LocalValues
   pub is : has.left.memory.values ≡ Some values
   pub are : AreLocalValues has.opened.layout
-      (types_told (rule_of has.opened.layout (records_of has.tables has.opened.version)) has.opened.known
+      (types_told (rule_of has.opened.layout (records_of has.tables has.opened.version))
+      (coroutine_rule_of has.opened.layout (records_of has.tables has.opened.version)) has.opened.known
       has.opened.layout (memory_in has.opened.dumped)) (levels_of s.locals)
       (memory_in has.opened.dumped) has.left.salvaged.interpreters.items values
   pub shown : AreShown s.json (Some values) (shown_addresses has.left.salvaged.interpreters.items) has.left.values

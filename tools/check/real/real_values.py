@@ -40,6 +40,9 @@ PAIRS = ("dict", "instance")
 BARE = {"object", "function", "builtin", "module", "method", "class"}
 """Kinds of objects that may be told by their types alone, or by more than the process said of them."""
 
+PAUSED = {"coroutine", "generator", "async generator"}
+"""Kinds of values whose names and states are told from 3.6 on."""
+
 OLD = {"unicode", "dict", "set", "frozenset", "bytearray", "range", "slice", "cell", "instance"}
 """Kinds of Python 2's whose records may not be read: such values are objects of their types."""
 
@@ -142,6 +145,8 @@ def is_bare(told: Tree, wanted: Tree, is_2: bool) -> bool:
     own = wanted["kind"]
     if own == "object":
         return told["kind"] in BARE and told["address"] == wanted["address"] and told.get("type", wanted["type"]) == wanted["type"]
+    if is_2 and own in PAUSED:
+        return told["kind"] in (own, "object") and told["address"] == wanted["address"] and told.get("state") is None
     return is_2 and own in OLD and told["kind"] == "object"
 
 

@@ -71,6 +71,26 @@ class Meta(type):
     """A class of classes."""
 
 
+ASYNC = """
+class Pause(object):
+    def __await__(self):
+        yield
+
+async def fetch():
+    await Pause()
+
+async def rows():
+    yield 1
+    yield 2
+"""
+"""What Pythons before 3.6 don't compile."""
+
+STATES = {}
+"""How far coroutines, generators and async generators have come, by their addresses."""
+
+PAUSED = {"generator": "generator", "coroutine": "coroutine", "async_generator": "async generator"}
+"""The kinds of these, by the names of their types."""
+
 SAID = {}
 """The attributes of objects, by their addresses: asking an object for its dict would change how it holds them."""
 
@@ -93,6 +113,62 @@ def without(value, name):
 def attributes_of(value):
     """The attributes that were set."""
     return SAID.get(id(value), (value, []))[1]
+
+
+def counted():
+    """A generator."""
+    yield 1
+    yield 2
+
+
+def delegating():
+    """A generator that stands in a `yield from`, where there is such; else in a plain one."""
+    own = {"counted": counted}
+    exec("def outer():\n    yield from counted()\n" if not IS_2 else "def outer():\n    yield 1\n", own)
+    return own["outer"]()
+
+
+def come(value, state, name=None):
+    """The same coroutine, generator or async generator, which has come so far; with another name, where one is said."""
+    if name is not None and not IS_2:
+        value.__name__ = name
+    STATES[id(value)] = state
+    return value
+
+
+def stepped(value):
+    """The same generator one step further, or the same coroutine or async generator."""
+    begun = value if hasattr(value, "send") else value.asend(None)
+    try:
+        begun.send(None)
+    except StopIteration:
+        pass
+    return value
+
+
+def finished(value):
+    """The same generator at its end, or the same coroutine or async generator."""
+    for _ in range(3):
+        try:
+            stepped(value)
+        except Exception:
+            pass
+    return value
+
+
+def of_async():
+    """Coroutines and async generators, by names, where there are such."""
+    if sys.version_info < (3, 6):
+        return {}
+    own = {}
+    exec(ASYNC, own)
+    fetch, rows = own["fetch"], own["rows"]
+    return {
+        "coroutine_created": come(fetch(), "created"), "coroutine_suspended": come(stepped(fetch()), "suspended"),
+        "coroutine_finished": come(finished(fetch()), "finished"), "coroutine_renamed": come(fetch(), "created", "a b: running>"),
+        "rows_created": come(rows(), "created"), "rows_suspended": come(stepped(rows()), "suspended"),
+        "rows_finished": come(finished(rows()), "finished"),
+    }
 
 
 def data_object():
@@ -201,6 +277,8 @@ def tree_of(value, depth=0):
         return tree
     if isinstance(value, type):
         return {"kind": "class", "name": value.__name__, "address": hexadecimal(id(value))}
+    if id(value) in STATES:
+        return {"kind": PAUSED[type(value).__name__], "name": value.__name__, "state": STATES[id(value)], "address": hexadecimal(id(value))}
     tree = {"kind": "object", "type": type(value).__name__, "address": hexadecimal(id(value))}
     if attributes_of(value):
         pairs = [[tree_of(name, depth + 1), tree_of(it, depth + 1)] for name, it in attributes_of(value)]
@@ -234,8 +312,17 @@ def instance_text(value):
     return "<%s at %s: %s>" % (type(value).__name__, hexadecimal(id(value)), ", ".join(parts))
 
 
+def paused_text(value):
+    """The text of a coroutine, a generator or an async generator."""
+    name = value.__name__
+    shown = name if all(it not in " '\"" for it in name) else repr(name)
+    return "<%s %s at %s: %s>" % (type(value).__name__, shown, hexadecimal(id(value)), STATES[id(value)])
+
+
 def said_of(value):
     """What is said of a value."""
+    if id(value) in STATES:
+        return {"text": paused_text(value), "tree": tree_of(value)}
     if attributes_of(value):
         return {"text": instance_text(value), "tree": tree_of(value)}
     if isinstance(value, Derived):
@@ -254,7 +341,7 @@ def held():
     return inner.__closure__[0]
 
 
-def keep():
+def keep(running):
     """Keeps the values, says what they are, and dies."""
     nothing, yes, no, dots, not_there = None, True, False, Ellipsis, NotImplemented
     zero, one, minus, small, large = 0, 1, -1, 2 ** 30 - 1, 2 ** 30
@@ -299,8 +386,34 @@ def keep():
     looped.itself = looped
     SAID[id(looped)][1].append(("itself", looped))
     error = with_attributes(ValueError("x"), ("note", 1))
+    created, suspended, done = come(counted(), "created"), come(stepped(counted()), "suspended"), come(finished(counted()), "finished")
+    within_another, renamed = come(stepped(delegating()), "suspended"), come(stepped(counted()), "suspended", "x at 0x1: running>")
+    expression = come((it for it in (1, 2)), "created")
+    paused = of_async()
+    coroutine_created, coroutine_suspended = paused.get("coroutine_created"), paused.get("coroutine_suspended")
+    coroutine_finished, coroutine_renamed = paused.get("coroutine_finished"), paused.get("coroutine_renamed")
+    rows_created, rows_suspended, rows_finished = paused.get("rows_created"), paused.get("rows_suspended"), paused.get("rows_finished")
+    in_a_list = [created, suspended, done]
+    check_states()
     tell(dict(locals()))
     os.abort()
+
+
+def check_states():
+    """Fails where `inspect` has it otherwise that something has come so far."""
+    import gc
+    import inspect
+    told = {"generator": "getgeneratorstate", "coroutine": "getcoroutinestate", "async_generator": "getasyncgenstate"}
+    for value in gc.get_objects():
+        ask = getattr(inspect, told.get(type(value).__name__, ""), None)
+        if ask is not None and id(value) in STATES:
+            state = ask(value).split("_")[-1].lower()
+            assert {"closed": "finished"}.get(state, state) == STATES[id(value)], (value, state)
+
+
+def run(own):
+    """A generator that runs while its values are kept."""
+    yield keep(own[0])
 
 
 def tell(own):
@@ -315,7 +428,9 @@ def main():
         file.write(sys.argv[1])
     hard = resource.getrlimit(resource.RLIMIT_CORE)[1]
     resource.setrlimit(resource.RLIMIT_CORE, (hard, hard))
-    keep()
+    own = []
+    own.append(come(run(own), "running"))
+    next(own[0])
 
 
 if __name__ == "__main__":

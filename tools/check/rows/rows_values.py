@@ -2,12 +2,13 @@
 
 import json
 import struct
-from typing import Callable, Dict, Iterator, List, Optional
+from typing import Callable, Dict, Iterator, List, Optional, Tuple
 
-from made import Objects
+from made import Objects, Section, Segment, Symbol, image_file
+from made_tasks import RECORDS
 from row import Row
-from rows_salvage import GOOD, group, named, salvage
-from small_core import HEAP, TEXT, THREAD, heap_of_locals
+from rows_salvage import GOOD, RUNTIME, group, named, salvage
+from small_core import BSS, HEAP, TEXT, THREAD, heap_of_locals
 
 Make = Callable[[Objects, int, int], int]
 """Makes a value, by the classes of integers and of texts."""
@@ -18,7 +19,7 @@ NOWHERE = 0x70000000
 
 def rows() -> List[Row]:
     """All of them."""
-    return [it for part in (leaves, containers, cuts, lost, trees) for it in part()]
+    return [it for part in (leaves, containers, cuts, lost, coroutines, trees) for it in part()]
 
 
 def files(*make: Make) -> Dict[str, bytes]:
@@ -161,6 +162,90 @@ def lost() -> Iterator[Row]:
 
     things = files(thing)
     yield salvage("value: a thing", f"{GOOD} -l", things, with_locals(f"a: <thing at 0x{places[-1]:x}>"))
+
+
+# ---- coroutines, generators and async generators
+
+SYMBOLS = {"coroutine": "PyCoro_Type", "generator": "PyGen_Type", "async_generator": "PyAsyncGen_Type"}
+"""The symbols of their types."""
+
+BY_STATE = RECORDS.replace(b"stack_pointer = {bottom=40, top=48}\n", b"""\
+stack_depth = {bottom=40, depth=48, state=52}
+states = {created=254, suspended=255, running=0}
+""").replace(b"generator_running = {running=24}\n", b"")
+"""Records by which a frame has a state, a byte at 52, as in 3.10."""
+
+Paused = Tuple[str, Optional[str], Callable[[Objects, int], object]]
+"""One of these: its kind, its name, none where that is no text, and how it stands, which writes its words."""
+
+
+def last_at(number: int, state: int = 255) -> Callable[[Objects, int], object]:
+    """One with a frame whose last instruction is at a number, and which has a state where there are such."""
+    def write(objects: Objects, at: int) -> object:
+        frame = objects.record("frame", None, instr=number)
+        objects.write(frame + 52, bytes([state]))
+        return objects.word(at + 16, frame)
+
+    return write
+
+
+def runs(objects: Objects, at: int) -> object:
+    """One that runs."""
+    last_at(4)(objects, at)
+    return objects.write(at + 24, b"\1")
+
+
+def paused(*ones: Paused, records: bytes = RECORDS, symbols: bool = True) -> Tuple[Dict[str, bytes], List[int]]:
+    """The files of a core that has these in the locals of its first frame, and where they stand."""
+    types: Dict[str, int] = {}
+    places: List[int] = []
+
+    def make(objects: Objects, numbers: int, texts: int) -> List[int]:
+        meta = objects.klass("type", 31)
+        objects.of_class(meta, meta)
+        types.update((kind, objects.of_class(objects.klass(kind, 0), meta)) for kind in SYMBOLS)
+        for kind, name, stands in ones:
+            at = objects.of_class(objects.write(objects.free(), bytes(120)), types[kind])
+            text = objects.text(name or "x", klass=texts)
+            if name is None:
+                objects.write(text + group("string")["state"], bytes(4))
+            objects.word(at + 48, text)
+            stands(objects, at)
+            places.append(at)
+        return places
+
+    objects = heap_of_locals(make, "abcdefgh"[:len(ones)], 0)
+    own = [Symbol(SYMBOLS[kind], at) for kind, at in types.items()] if symbols else []
+    program = image_file([Segment(0x400000, b"", 5, 0x1000)], (BSS, 16), [Symbol("_PyRuntime", RUNTIME), *own], [
+        Section(".PyRuntime", 1, RUNTIME, None, 592)])
+    return {**named(objects), "image": program, "records": records}, places
+
+
+def coroutines() -> Iterator[Row]:
+    """Coroutines, generators and async generators."""
+    created, suspended, nothing = last_at(0xFFFFFFFF), last_at(4), lambda objects, at: None
+    nowhere = lambda objects, at: objects.word(at + 16, NOWHERE)
+    unnamed = lambda objects, at: (objects.word(at + 48, NOWHERE), suspended(objects, at))
+    words = f"{GOOD} --records records -l"
+    for what, one, text in (
+        ("one that is created", ("generator", "numbers", created), "<generator numbers at {at}: created>"),
+        ("one that is suspended", ("coroutine", "fetch", suspended), "<coroutine fetch at {at}: suspended>"),
+        ("one that runs", ("coroutine", "fetch", runs), "<coroutine fetch at {at}: running>"),
+        ("one that is finished", ("async_generator", "rows", nothing), "<async_generator rows at {at}: finished>"),
+        ("a name that would be a state", ("generator", "x at 0x1: running>", suspended), "<generator 'x at 0x1: running>' at {at}: suspended>"),
+        ("a name that is no text", ("generator", None, suspended), "<generator at {at}: suspended>"),
+        ("a name that is not in memory", ("coroutine", "f", unnamed), "<coroutine at {at}: suspended>"),
+        ("a frame that is not in memory", ("coroutine", "f", nowhere), "<coroutine f at {at}>"),
+    ):
+        files_of_one, places = paused(one)
+        yield salvage(f"value: {what}", words, files_of_one, with_locals("a: " + text.format(at=hex(places[0]))))
+    for number, state in ((254, "created"), (255, "suspended"), (0, "running"), (1, "finished"), (77, "finished")):
+        files_of_one, places = paused(("generator", "numbers", last_at(4, number)), records=BY_STATE)
+        yield salvage(f"value: the state {number}", words, files_of_one, with_locals(f"a: <generator numbers at {places[0]:#x}: {state}>"))
+    files_of_one, places = paused(("generator", "numbers", suspended))
+    yield salvage("value: a generator without records", f"{GOOD} -l", files_of_one, with_locals(f"a: <generator at {places[0]:#x}>"))
+    files_of_one, places = paused(("generator", "numbers", suspended), symbols=False)
+    yield salvage("value: a generator without symbols", words, files_of_one, with_locals(f"a: <generator at {places[0]:#x}>"))
 
 
 def trees() -> Iterator[Row]:
