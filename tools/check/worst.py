@@ -206,8 +206,9 @@ OVER_CORES = {
 }
 """The words of each command over a core."""
 
-HEAP_ENDS = "1 no interpreter found: 16777218 addresses looked at, 0 members walked"
-"""How the search of a heap ends that leads nowhere: the two words of the bss were looked at before."""
+HEAP_ENDS = "1 no interpreter found: 16777218 addresses looked at, 1 members walked"
+"""How the search of a heap ends that leads nowhere: the two words of the bss were looked at before, and the small core's interpreter
+has a thread of another id."""
 
 TEN = 10.0
 """The seconds of rows whose time grows with what they claim."""
