@@ -26,7 +26,7 @@ from each_python import each_python
 from find_pythons import pythons
 from pystacks_tool.cores.prepare import Unprepared, Wishes, prepared
 from real_core import derived_for, images_of, ran
-from real_salvage import frames_of, left_by, threads
+from real_salvage import frames_of, is_front, left_by, threads
 
 PERMILLE = (300, 600, 900, 989)
 """Of a core that is cut, how many thousandths of its bytes stay."""
@@ -58,23 +58,19 @@ die()
 Stacks = Dict[str, List[str]]
 
 
-def is_part(names: List[str], whole: List[str]) -> bool:
-    """Whether these are the first of a stack. (The thread that told has gone on from its call since: its own frames are fewer.)"""
-    return any(whole[at:at + len(names)] == names for at in range(min(3, len(whole) + 1)))
-
-
 def shown_in(tree: Dict[str, object], said: Stacks) -> Tuple[int, int, int]:
     """How many interpreters, threads and frames are shown; fails where one of them is none of the process's."""
     frames = 0
     found = [it for it in threads(tree)]
     for thread in found:
-        names = [name for name, file in frames_of(thread) if file]
+        names = [name if file else None for name, file in frames_of(thread)]
         whole = said.get(str(thread["thread_id"]))
-        if whole is None and names:
+        if whole is None and any(names):
             raise Failure(f"a thread {thread['thread_id']} with frames {names} is none of the process")
-        if whole is not None and not is_part(names, whole):
+        # (the thread that told has gone on from its call since: its own frames are fewer)
+        if whole is not None and not is_front(names, whole, 3):
             raise Failure(f"the frames {names} are not those of {whole}")
-        frames += len(names)
+        frames += sum(name is not None for name in names)
     return len(tree["interpreters"]), len(found), frames
 
 

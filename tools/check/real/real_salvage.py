@@ -16,7 +16,7 @@ import os
 import sys
 import tempfile
 from pathlib import Path
-from typing import Dict, Iterator, List, Sequence, Tuple
+from typing import Dict, Iterator, List, Optional, Sequence, Tuple, TypeVar
 
 from rooms import ROOT  # (first: it makes the other rooms known)
 
@@ -88,6 +88,7 @@ die()
 idle."""
 
 Tree = Dict[str, object]
+Frame = TypeVar("Frame")
 
 
 def left_by(python: str, names: str, room: Path, source: str, *words: str) -> Tuple[Path, str]:
@@ -121,6 +122,16 @@ def threads(tree: Tree) -> Iterator[Tree]:
 def frames_of(thread: Tree) -> List[Tuple[str, str]]:
     """The names of its frames; of a member without names its address."""
     return [(it.get("name", it.get("address")), it.get("filename", "")) for it in members(thread)]
+
+
+def is_front(own: Sequence[Optional[Frame]], whole: Sequence[Frame], begins: int = 1) -> bool:
+    """Whether some frames are the first of a stack, from one of its first places on. None is a member without names: it is the next
+    frame, or one that the whole stack leaves out."""
+    places = set(range(min(begins, len(whole) + 1)))
+    for frame in own:
+        after = {at + 1 for at in places if at < len(whole) and frame in (None, whole[at])}
+        places = places | after if frame is None else after
+    return bool(places)
 
 
 def check_same(salvage: Path, program: Path, core: Path, layouts: Path) -> Tuple[int, int]:
@@ -164,8 +175,8 @@ def check_cut(salvage: Path, core: Path, layouts: Path, room: Path) -> None:
         if run.status not in (0, 1):
             raise Failure(f"cut at {part} %: status {run.status}: {run.err}")
         for thread in threads(json.loads(run.out)) if run.status == 0 else ():
-            frames = [it for it in frames_of(thread) if it[1]]
-            if thread["thread_id"] not in whole or frames_of(whole[thread["thread_id"]])[: len(frames)] != frames:
+            frames = [it if it[1] else None for it in frames_of(thread)]
+            if thread["thread_id"] not in whole or not is_front(frames, frames_of(whole[thread["thread_id"]])):
                 raise Failure(f"cut at {part} %: a thread that is none of the whole core")
 
 
