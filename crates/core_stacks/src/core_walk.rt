@@ -33,7 +33,7 @@ pub fn walk(
 {
     let core = CoreDump::new(alloc, bytes)?;
     let Some(layout) = layouts.choose(version) else {
-        let version = version.copy(alloc)?;
+        let version = version.share()?;
         return Err(CoreError::UnsupportedVersion { version });
     };
     let mut view = core.view();

@@ -28,11 +28,11 @@ pub struct StackKey {
     pub threads: Vec<Vec<FrameKey>>,
 }
 
-fn frame_key(alloc: Global, frame: &Frame) -> Result<FrameKey, AllocError>
+fn frame_key(frame: &Frame) -> Result<FrameKey, AllocError>
     ensures { IfOk result (λ key. frame_compared key ≡ compared_frame frame.now) }
 {
-    let name = frame.name.copy(alloc)?;
-    let filename = frame.filename.copy(alloc)?;
+    let name = frame.name.share()?;
+    let filename = frame.filename.share()?;
     let line = frame.line;
     Ok(FrameKey {
         name,
@@ -46,7 +46,7 @@ fn thread_key(alloc: Global, trace: &StackTrace) -> Result<Vec<FrameKey>, AllocE
 {
     let mut frames = Vec::new(alloc);
     for frame in &trace.frames {
-        frames.push(frame_key(alloc, frame)?)?;
+        frames.push(frame_key(frame)?)?;
     }
     Ok(frames)
 }

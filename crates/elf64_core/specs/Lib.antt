@@ -7,6 +7,5 @@ pub mod Offsets
 pub mod Outcomes
 pub mod Rest
 pub mod Sections
-pub mod Shares
 pub mod SpanTables
 pub mod Symbols

@@ -65,7 +65,8 @@ impl Name {
     {
         let mut text = String::new(alloc);
         self.as_bytes().to_str_lossy_into(&mut text)?;
-        Ok(Text::from(text))
+        let shared = Text::from_string(text)?;
+        Ok(shared)
     }
 }
 

@@ -2,8 +2,8 @@
 ghost use Rattle.std.specs.Prelude.{◌≡◌, List, ℕ, refl, nat_eq, IfOk, string_bytes, encode_utf8_all};
 ghost use Rattle.std.proofs.Common.{rules};
 ghost use Rattle.std.specs.Ordering.{nat_cmp, on, as_partial_cmp};
+ghost use Rattle.std.specs.Rc.{rc_str_bytes};
 ghost use Rattle.std.specs.Str.{chars};
-ghost use Rattle.elf64_core.specs.Shares.{held_bytes};
 ghost use Rattle.std.specs.Hash as fed;
 ghost use Rattle.std.specs.Cmp.{partial_order_from_own_ties};
 ghost use Rattle.std.specs.Cmp.Lexicographic.{pointwise, slice_cmp};
@@ -17,74 +17,52 @@ use std::hash::{Hash, Hasher};
 use std::marker::Model;
 use std::rc::RcStr;
 
-/// The bytes of a text: its own, or shared with others.
-#[derive(Drop)]
-pub(crate) enum Held {
-    Own(String),
-    Shared(RcStr),
-}
-
-/// A text: characters, which are Unicode's scalar values. Texts may share their bytes: see `copy`.
+/// A text: characters, which are Unicode's scalar values. Texts may share their bytes: see `share`.
 ///
 /// Contracts see it as the list of its characters. It is compared, ordered and hashed by its bytes in
 /// UTF-8.
 #[derive(Drop)]
 pub struct Text {
-    held: Held,
+    /// Bytes that others may share.
+    shared: RcStr,
 }
 
 impl Model for Text {
     ghost Value = { List ℕ };
 
-    ghost view = { λ t. chars (held_bytes t.held) };
+    ghost view = { λ t. chars (rc_str_bytes t.shared) };
 }
 
 impl Text {
-    /// A copy of the characters. The one error is want of memory.
+    /// A copy of the characters. The one error is out of memory.
     pub fn of(alloc: Global, text: &str) -> Result<Text, AllocError>
         ensures { IfOk result (λ t. t ≡ chars text.now) }
     {
-        let own = String::from_str(alloc, text)?;
-        Ok(Text {
-            held: Held::Own(own),
-        })
+        let shared = RcStr::from_str(alloc, text)?;
+        Ok(Text { shared })
     }
 
-    /// The same text once more. No byte of one that is shared is copied, and a copy of one that isn't is shared. The
-    /// one error is want of memory.
-    pub fn copy(&self, alloc: Global) -> Result<Text, AllocError>
+    /// The same characters; none is copied. The one error is out of memory.
+    pub fn from_string(own: String) -> Result<Text, AllocError>
+        ensures { IfOk result (λ t. t ≡ chars (string_bytes own)) }
+    {
+        let shared = RcStr::from_string(own)?;
+        Ok(Text { shared })
+    }
+
+    /// The same text once more; no byte is copied. The one error is out of memory: there are too many shares.
+    pub fn share(&self) -> Result<Text, AllocError>
         ensures { IfOk result (λ t. t ≡ self.now) }
     {
-        let shared = match &self.held {
-            Held::Own(own) => RcStr::from_str(alloc, own.as_str())?,
-            Held::Shared(shared) => shared.clone()?,
-        };
-        Ok(Text {
-            held: Held::Shared(shared),
-        })
-    }
-
-    /// The same text, of which each copy shares the bytes. The one error is want of memory.
-    pub fn shared(self) -> Result<Text, AllocError>
-        ensures { IfOk result (λ t. t ≡ self) }
-    {
-        let shared = match self.held {
-            Held::Own(own) => RcStr::from_string(own)?,
-            Held::Shared(shared) => shared,
-        };
-        Ok(Text {
-            held: Held::Shared(shared),
-        })
+        let shared = self.shared.clone()?;
+        Ok(Text { shared })
     }
 
     /// The text in UTF-8.
     pub fn as_str(&self) -> &str
         ensures { result.now ≡ encode_utf8_all self.now }
     {
-        match &self.held {
-            Held::Own(own) => own.as_str(),
-            Held::Shared(shared) => shared.as_str(),
-        }
+        self.shared.as_str()
     }
 }
 
@@ -92,17 +70,6 @@ impl Text {
 impl Debug for Text {
     fn fmt<W: Write>(&self, f: &mut Formatter<W>) -> fmt::Result {
         self.as_str().fmt(f)
-    }
-}
-
-/// The same characters; nothing is copied.
-impl From<String> for Text {
-    ghost from_gives = { λ s t. t ≡ chars (string_bytes s) };
-
-    fn from(own: String) -> Text {
-        Text {
-            held: Held::Own(own),
-        }
     }
 }
 

@@ -69,7 +69,8 @@ fn function_name(alloc: Global, number: u64) -> Result<Text, AllocError>
     ensures { IfOk result (λ name. name ≡ codes "f" ++ decimal number) }
 {
     let name = format!(in alloc; "f{number}")?;
-    Ok(Text::from(name))
+    let shared = Text::from_string(name)?;
+    Ok(shared)
 }
 
 /// The name of a file.
@@ -77,7 +78,8 @@ fn file_name(alloc: Global, number: u32) -> Result<Text, AllocError>
     ensures { IfOk result (λ name. name ≡ codes "m" ++ (decimal number ++ codes ".py")) }
 {
     let name = format!(in alloc; "m{number}.py")?;
-    Ok(Text::from(name))
+    let shared = Text::from_string(name)?;
+    Ok(shared)
 }
 
 /// A frame of a thread.

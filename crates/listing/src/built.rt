@@ -90,7 +90,7 @@ fn ranges_of(alloc: Global, number: u32) -> Result<Vec<LineRange>, AllocError> {
 fn frame_of(alloc: Global, shape: Shape<'_>, number: u32) -> Result<ProgramFrame, AllocError> {
     let name = format!(in alloc; "f{number}")?;
     Ok(ProgramFrame {
-        name: Text::from(name),
+        name: Text::from_string(name)?,
         filename: Text::of(alloc, "a.py")?,
         first: 1 + (number % 1000) as i32,
         ranges: ranges_of(alloc, number)?,

@@ -49,7 +49,8 @@ fn component(alloc: Global, path: &[u8]) -> Result<Text, AllocError>
 {
     let mut text = String::with_capacity(alloc, path.len())?;
     path.to_str_lossy_into(&mut text)?;
-    Ok(Text::from(text))
+    let shared = Text::from_string(text)?;
+    Ok(shared)
 }
 
 /// What the bytes of a path are: nothing, a file where they begin with `/`, or something else.

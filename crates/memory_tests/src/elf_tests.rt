@@ -31,9 +31,9 @@ fn names_are_their_bytes(rt: HostRuntime) -> Result<(), Fail> {
 fn texts_are_their_bytes(rt: HostRuntime) -> Result<(), Fail> {
     let alloc = rt.alloc();
     let first = Text::of(alloc, "\u{ffff}")?;
-    let last = Text::from(String::from_str(alloc, "😀")?);
+    let last = Text::from_string(String::from_str(alloc, "😀")?)?;
     assert!(rt; first.cmp(&last) == Ordering::Less && first != last);
-    let again = last.copy(alloc)?;
+    let again = last.share()?;
     assert!(rt; hash_of(&last) == hash_of(&again));
     Ok(())
 }

@@ -6,22 +6,22 @@ use elf64_core::Text;
 use std::alloc::{AllocError, Global};
 
 /// A copy of a text, where there is one.
-pub(crate) fn copy_text(alloc: Global, text: &Option<Text>) -> Result<Option<Text>, AllocError>
+pub(crate) fn copy_text(text: &Option<Text>) -> Result<Option<Text>, AllocError>
     ensures { IfOk result (λ copy. copy ≡ text.now) }
 {
     match text {
-        Some(text) => Ok(Some(text.copy(alloc)?)),
+        Some(text) => Ok(Some(text.share()?)),
         None => Ok(None),
     }
 }
 
 /// A copy of a native frame.
-pub(crate) fn copy_native(alloc: Global, native: &NativeFrame) -> Result<NativeFrame, AllocError>
+pub(crate) fn copy_native(native: &NativeFrame) -> Result<NativeFrame, AllocError>
     ensures { IfOk result (λ copy. copy ≡ native.now) }
 {
-    let function = copy_text(alloc, &native.function)?;
-    let filename = copy_text(alloc, &native.filename)?;
-    let module = native.module.copy(alloc)?;
+    let function = copy_text(&native.function)?;
+    let filename = copy_text(&native.filename)?;
+    let module = native.module.share()?;
     Ok(NativeFrame {
         addr: native.addr,
         function,
@@ -40,7 +40,7 @@ pub(crate) fn copy_natives(
 {
     let mut copies = Vec::with_capacity(alloc, natives.len())?;
     for native in natives {
-        copies.push(copy_native(alloc, native)?)?;
+        copies.push(copy_native(native)?)?;
     }
     Ok(copies)
 }

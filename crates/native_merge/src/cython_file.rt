@@ -114,7 +114,8 @@ pub(crate) fn cython_file<F: Sources>(
         return file_in_module(alloc, sources, module, name);
     };
     if sources.exists(path.as_bytes()) {
-        return Ok(Text::from(path));
+        let shared = Text::from_string(path)?;
+        return Ok(shared);
     }
     file_in_module(alloc, sources, module, name)
 }

@@ -7,11 +7,11 @@ use crate::copies::copy_text;
 use py_stacks::{Frame, LocalVariable};
 use std::alloc::{AllocError, Global};
 
-fn copy_local(alloc: Global, local: &LocalVariable) -> Result<LocalVariable, AllocError>
+fn copy_local(local: &LocalVariable) -> Result<LocalVariable, AllocError>
     ensures { IfOk result (λ copy. copy ≡ local.now) }
 {
-    let name = local.name.copy(alloc)?;
-    let repr = copy_text(alloc, &local.repr)?;
+    let name = local.name.share()?;
+    let repr = copy_text(&local.repr)?;
     Ok(LocalVariable {
         name,
         addr: local.addr,
@@ -25,7 +25,7 @@ fn copy_all(alloc: Global, locals: &[LocalVariable]) -> Result<Vec<LocalVariable
 {
     let mut copies = Vec::with_capacity(alloc, locals.len())?;
     for local in locals {
-        copies.push(copy_local(alloc, local)?)?;
+        copies.push(copy_local(local)?)?;
     }
     Ok(copies)
 }
@@ -46,10 +46,10 @@ fn copy_locals(
 pub(crate) fn copy_frame(alloc: Global, frame: &Frame) -> Result<Frame, AllocError>
     ensures { IfOk result (λ copy. call_of copy ≡ call_of frame.now) }
 {
-    let name = frame.name.copy(alloc)?;
-    let filename = frame.filename.copy(alloc)?;
-    let module = copy_text(alloc, &frame.module)?;
-    let short_filename = copy_text(alloc, &frame.short_filename)?;
+    let name = frame.name.share()?;
+    let filename = frame.filename.share()?;
+    let module = copy_text(&frame.module)?;
+    let short_filename = copy_text(&frame.short_filename)?;
     let locals = copy_locals(alloc, &frame.locals)?;
     Ok(Frame {
         name,

@@ -81,7 +81,8 @@ fn address_name(alloc: Global, addr: u64) -> Result<Text, AllocError>
     ensures { IfOk result (λ text. text ≡ address_name addr) }
 {
     let text = format!(in alloc; "0x{addr:x}")?;
-    Ok(Text::from(text))
+    let shared = Text::from_string(text)?;
+    Ok(shared)
 }
 
 /// The frame of an address that can't be looked up.
@@ -104,12 +105,12 @@ fn source_shown<F: Sources>(
     ensures stay { Stay (F.seen sources.old) (F.seen sources.new) }
 {
     let Some(filename) = filename else {
-        return module.copy(alloc);
+        return module.share();
     };
     let found = resolve_filename(alloc, sources, filename.as_str(), module.as_str())?;
     match found {
         Some(path) => Ok(path),
-        None => filename.copy(alloc),
+        None => filename.share(),
     }
 }
 
@@ -122,10 +123,10 @@ pub(crate) fn shown_frame<F: Sources>(
     ensures shows { IfOk result (λ frame. ShowsNative (F.seen sources.old).exists native.now (call_of frame)) }
     ensures stay { Stay (F.seen sources.old) (F.seen sources.new) }
 {
-    let module = native.module.copy(alloc)?;
+    let module = native.module.share()?;
     let Some(function) = &native.function else {
         let name = address_name(alloc, native.addr)?;
-        let filename = native.module.copy(alloc)?;
+        let filename = native.module.share()?;
         return Ok(native_frame(name, filename, Some(module), 0));
     };
     let name = Text::of(alloc, demangle(function.as_str()))?;

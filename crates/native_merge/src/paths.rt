@@ -88,7 +88,8 @@ pub fn resolve_filename<F: Sources>(
         return Ok(None);
     };
     if sources.exists(path.as_bytes()) {
-        return Ok(Some(Text::from(path)));
+        let shared = Text::from_string(path)?;
+        return Ok(Some(shared));
     }
     Ok(None)
 }

@@ -121,7 +121,7 @@ fn read_marks<F: Sources>(
         )?;
         count += 1;
     }
-    let file = Text::from(String::new(alloc));
+    let file = Text::from_string(String::new(alloc))?;
     marks.push(SourceMark {
         line: count + 1,
         file,

@@ -114,7 +114,7 @@ impl SourceMaps {
         ensures err { OnErr result (self.new ≡ self.old) }
         ensures stay { Stay (F.seen sources.old) (F.seen sources.new) }
     {
-        let filename = frame.filename.copy(self.alloc)?;
+        let filename = frame.filename.share()?;
         match read_map(self.alloc, sources, filename.as_str(), module_of(frame))? {
             FileMap::Known(map) => self.keep(filename, map),
             FileMap::Unread => Ok(()),

@@ -19,7 +19,7 @@ fn only(alloc: Global, native: &NativeFrame) -> Result<Vec<NativeFrame>, SymbolF
     ensures one { IfOk result (λ natives. natives.items ≡ native.now ∷ []) }
     ensures refused { IfErr result (λ fault. fault ≡ SymbolFault.OutOfMemory) }
 {
-    let Ok(copy) = copy_native(alloc, native) else {
+    let Ok(copy) = copy_native(native) else {
         return Err(SymbolFault::OutOfMemory);
     };
     let mut natives = Vec::new(alloc);
@@ -30,10 +30,10 @@ fn only(alloc: Global, native: &NativeFrame) -> Result<Vec<NativeFrame>, SymbolF
 }
 
 /// Keeps a frame under its address; where there is no memory nothing is kept, and the cache stays as it was.
-fn keep(alloc: Global, cache: &mut SymbolCache, addr: u64, native: &NativeFrame)
+fn keep(cache: &mut SymbolCache, addr: u64, native: &NativeFrame)
     ensures { MayKeep cache.old cache.new addr native.now }
 {
-    if let Ok(copy) = copy_native(alloc, native) {
+    if let Ok(copy) = copy_native(native) {
         let _kept = cache.put(addr, copy);
     }
 }
@@ -78,7 +78,7 @@ pub(crate) fn ask<S: Symbolicator>(
     }
     let natives = symbols.symbolicate(alloc, addr, line_info)?;
     if let [native] = natives.as_slice() {
-        keep(alloc, cache, addr, native);
+        keep(cache, addr, native);
     }
     Ok(natives)
 }

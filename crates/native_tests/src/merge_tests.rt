@@ -54,7 +54,7 @@ fn frames_of(alloc: Global, names: &str) -> Result<Vec<Frame>, AllocError> {
         let mut text = String::new(alloc);
         text.push(name as char)?;
         frames.push(Frame {
-            name: Text::from(text),
+            name: Text::from_string(text)?,
             filename: Text::of(alloc, "a.py")?,
             module: None,
             short_filename: None,

@@ -55,7 +55,10 @@ fn utf8_text(bytes: Vec<u8>) -> Result<Text, ObjectError>
     ensures { Answers object_fault (found_or (decoded TextKind.Utf8 bytes.items) NoText) result }
 {
     match String::from_utf8(bytes) {
-        Ok(text) => Ok(Text::from(text)),
+        Ok(text) => {
+            let shared = Text::from_string(text)?;
+            Ok(shared)
+        }
         Err(_) => Err(ObjectError::NoText),
     }
 }
@@ -63,7 +66,9 @@ fn utf8_text(bytes: Vec<u8>) -> Result<Text, ObjectError>
 fn latin1_text(alloc: Global, bytes: &[u8]) -> Result<Text, ObjectError>
     ensures { Answers object_fault (found_or (decoded TextKind.Latin1 bytes.now) NoText) result }
 {
-    Ok(Text::from(latin1_string(alloc, bytes)?))
+    let text = latin1_string(alloc, bytes)?;
+    let shared = Text::from_string(text)?;
+    Ok(shared)
 }
 
 fn latin1_string(alloc: Global, bytes: &[u8]) -> Result<String, AllocError>
@@ -79,7 +84,10 @@ fn utf16_text(alloc: Global, bytes: &[u8]) -> Result<Text, ObjectError>
     let (pairs, _) = bytes.as_chunks::<2>();
     let units = utf16_units(alloc, pairs)?;
     match String::from_utf16(alloc, &units)? {
-        Ok(text) => Ok(Text::from(text)),
+        Ok(text) => {
+            let shared = Text::from_string(text)?;
+            Ok(shared)
+        }
         Err(_) => Err(ObjectError::NoText),
     }
 }
@@ -106,5 +114,6 @@ fn utf32_text(alloc: Global, bytes: &[u8]) -> Result<Text, ObjectError>
             None => return Err(ObjectError::NoText),
         }
     }
-    Ok(Text::from(text))
+    let shared = Text::from_string(text)?;
+    Ok(shared)
 }

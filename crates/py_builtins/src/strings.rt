@@ -89,7 +89,8 @@ fn read_text<P: ProcessMemory>(
     let object = record(alloc, process, addr, layout.string.size as u64)?;
     let length = u64_in(&object, layout.string.length as usize);
     if length == 0 {
-        return Ok(Text::from(String::new(alloc)));
+        let empty = Text::from_string(String::new(alloc))?;
+        return Ok(empty);
     }
     if length >= LENGTH_LIMIT {
         return Err(ObjectError::TooLong {

@@ -21,12 +21,12 @@ pub struct Version {
 }
 
 /// A copy of a version's metadata. The one error is want of memory.
-fn copy_metadata(alloc: Global, metadata: &Option<Text>) -> Result<Option<Text>, AllocError>
+fn copy_metadata(metadata: &Option<Text>) -> Result<Option<Text>, AllocError>
     ensures { IfOk result (λ copy. copy ≡ metadata.now) }
 {
     match metadata {
         Some(metadata) => {
-            let copy = metadata.copy(alloc)?;
+            let copy = metadata.share()?;
             Ok(Some(copy))
         }
         None => Ok(None),
@@ -55,12 +55,13 @@ impl Version {
         })
     }
 
-    /// A copy of the version. The one error is want of memory.
-    pub fn copy(&self, alloc: Global) -> Result<Version, AllocError>
+    /// The same version once more; its texts share their bytes. The one error is out of memory: there are too many
+    /// shares.
+    pub fn share(&self) -> Result<Version, AllocError>
         ensures { IfOk result (λ copy. copy ≡ self.now) }
     {
-        let release_flags = self.release_flags.copy(alloc)?;
-        let build_metadata = copy_metadata(alloc, &self.build_metadata)?;
+        let release_flags = self.release_flags.share()?;
+        let build_metadata = copy_metadata(&self.build_metadata)?;
         Ok(Version {
             major: self.major,
             minor: self.minor,

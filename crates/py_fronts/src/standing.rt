@@ -178,7 +178,7 @@ fn read_frame<P: ProcessMemory>(
         is_entry,
         is_shim_entry,
     };
-    let frame = share_texts(alloc, texts, frame)?;
+    let frame = share_texts(texts, frame)?;
     let fault = locals.fault;
     Ok(Standing::Frame { frame, fault })
 }

@@ -107,7 +107,8 @@ fn flaw_text(alloc: Global, flaw: Flaw<'_>) -> Result<Text, AllocError>
         None => Text::of(alloc, flaw.name),
         Some(group) => {
             let name = flaw.name;
-            Ok(Text::from(format!(in alloc; "{group}.{name}")?))
+            let path = Text::from_string(format!(in alloc; "{group}.{name}")?)?;
+            Ok(path)
         }
     }
 }

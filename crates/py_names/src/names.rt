@@ -127,7 +127,6 @@ fn read_thread<P: ProcessMemory>(
 
 /// Adds a name, where there is one, which shares its bytes with those of the same characters before it.
 fn add_name(
-    alloc: Global,
     texts: &mut SharedTexts,
     names: &mut Vec<Named>,
     named: Option<Named>,
@@ -138,7 +137,7 @@ fn add_name(
         return Ok(());
     };
     let id = named.id;
-    let name = texts.share(alloc, named.name)?;
+    let name = texts.share(named.name)?;
     names.push(Named { id, name })?;
     Ok(())
 }
@@ -168,7 +167,7 @@ fn read_each<P: ProcessMemory>(
         }
         let given = read_thread(alloc, process, layout, dict, number, left - 1)?;
         left = given.left;
-        add_name(alloc, &mut texts, &mut names, given.named)?;
+        add_name(&mut texts, &mut names, given.named)?;
     }
     Ok(names)
 }

@@ -70,7 +70,8 @@ pub fn format_variable<P: ProcessMemory>(
 {
     let width = width_of(max_length);
     let text = show_value(alloc, process, layout, addr, width, LEVELS, visits)?;
-    Ok(Text::from(text))
+    let shared = Text::from_string(text)?;
+    Ok(shared)
 }
 
 /// A width, which is not below 0.

@@ -29,7 +29,8 @@ fn flags_of(alloc: Global, level: u32, serial: u32) -> Result<Text, AllocError>
         12 => format!(in alloc; "rc{serial}")?,
         _ => String::new(alloc),
     };
-    Ok(Text::from(text))
+    let shared = Text::from_string(text)?;
+    Ok(shared)
 }
 
 /// The version of a number.

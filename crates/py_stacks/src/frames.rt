@@ -31,7 +31,6 @@ fn mark_last(frames: &mut Vec<Frame>)
 /// The same frame, whose two texts share their bytes with those of the same characters that were met before. The one
 /// error is want of memory.
 pub fn share_texts(
-    alloc: Global,
     texts: &mut SharedTexts,
     frame: Frame,
 ) -> Result<Frame, AllocError>
@@ -47,8 +46,8 @@ pub fn share_texts(
         is_entry,
         is_shim_entry,
     } = frame;
-    let name = texts.share(alloc, name)?;
-    let filename = texts.share(alloc, filename)?;
+    let name = texts.share(name)?;
+    let filename = texts.share(filename)?;
     Ok(Frame {
         name,
         filename,
@@ -63,7 +62,6 @@ pub fn share_texts(
 
 /// Adds what a member shows as; one that is skipped marks the frame before it.
 fn add_part(
-    alloc: Global,
     texts: &mut SharedTexts,
     frames: &mut Vec<Frame>,
     part: Option<Frame>,
@@ -76,7 +74,7 @@ fn add_part(
             Ok(())
         }
         Some(frame) => {
-            frames.push(share_texts(alloc, texts, frame)?)?;
+            frames.push(share_texts(texts, frame)?)?;
             Ok(())
         }
     }
@@ -111,7 +109,7 @@ pub(crate) fn read_frames<P: ProcessMemory>(
             return Err(StackError::ChainLimit);
         }
         let (back, part) = read_member(alloc, process, layout, asked, frames.len(), at, records)?;
-        add_part(alloc, texts, &mut frames, part)?;
+        add_part(texts, &mut frames, part)?;
         met += 1;
         at = back;
     }

@@ -51,7 +51,7 @@ fn name_in(
         None => Ok(None),
         Some(names) => match names.get(&id) {
             None => Ok(None),
-            Some(name) => Ok(Some(name.copy(alloc)?)),
+            Some(name) => Ok(Some(name.share()?)),
         },
     }
 }

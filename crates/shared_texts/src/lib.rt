@@ -30,14 +30,13 @@ impl SharedTexts {
 
     /// The same text, which shares its bytes with those of the same characters that were handed in before. It takes the
     /// time of some comparisons, as many as halve the texts that were met. The one error is want of memory.
-    pub fn share(&mut self, alloc: Global, text: Text) -> Result<Text, AllocError>
+    pub fn share(&mut self, text: Text) -> Result<Text, AllocError>
         ensures { IfOk result (λ shared. shared ≡ text) }
     {
         if let Some(met) = self.met(&text) {
-            return met.copy(alloc);
+            return met.share();
         }
-        let shared = text.shared()?;
-        self.met.insert(shared.copy(alloc)?)?;
-        Ok(shared)
+        self.met.insert(text.share()?)?;
+        Ok(text)
     }
 }

@@ -3,7 +3,7 @@ use Rattle.image_builder.proofs.Names.{letter_number}
 use Rattle.image_builder.proofs.seeded.function_name.Goals as goal
 
 pub returns : goal.returns
-returns c = c.from.ensures ∙ letter_number _ 102 c.args.number (omega arith) (omega (
+returns c = c.in_ok-shared.ensures ∙ letter_number _ 102 c.args.number (omega arith) (omega (
   arith,
   c.ranges.number.fits,
 )) c.in_ok-name.ensures.ok

@@ -11,4 +11,4 @@ returns c =
     let name = c.args.path.now in
     let appended : string_bytes c.to_str_lossy_into.new.dest ≡ string_bytes c.in_ok-text.text ++ encode_utf8_all (lossy_chars name) = c.in_ok-to_str_lossy_into.ensures.ok refl in
     let text = appended ∙ ap (λ bs. bs ++ encode_utf8_all (lossy_chars name)) c.in_ok-text.ensures.bytes in
-    c.from.ensures ∙ ap chars text ∙ chars-encodes (lossy_chars name) (scalars-lossy_chars name)
+    c.in_ok-shared.ensures ∙ ap chars text ∙ chars-encodes (lossy_chars name) (scalars-lossy_chars name)

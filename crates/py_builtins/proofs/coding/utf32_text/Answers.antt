@@ -20,4 +20,4 @@ pub returns : goal.returns
 returns c =
     let end : c.loop-code.code-index ≡ length c.as_chunks.result.0.now = omega arith in
     let whole : take c.loop-code.code-index c.as_chunks.result.0.now ≡ c.as_chunks.result.0.now = ap (λ n. take n c.as_chunks.result.0.now) end ∙ take-length c.as_chunks.result.0.now in
-    answers_utf32 c.args.bytes.now c.as_chunks.result.0.now c.as_chunks.ensures.front _ _ c.from.ensures (rw whole at c.loop-code.invariant.spelled) (rw whole at c.loop-code.invariant.scalars) c.requires (search rules)
+    answers_utf32 c.args.bytes.now c.as_chunks.result.0.now c.as_chunks.ensures.front _ _ c.in_ok-shared.ensures (rw whole at c.loop-code.invariant.spelled) (rw whole at c.loop-code.invariant.scalars) c.requires (search rules)

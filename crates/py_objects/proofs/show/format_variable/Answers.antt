@@ -20,11 +20,11 @@ returns-clause-few g c = told_within _ _ _ _ _ _ (reading_here c.in_ok-text.ensu
 
 pub returns-clause-characters : goal.returns-clause-characters
 returns-clause-characters g c =
-    c.from.ensures ∙ ap chars (sym (ap encode_utf8_all c.from.ensures ∙ encodes-chars (string_bytes c.in_ok-text.text) (IsUtf8-string_bytes c.in_ok-text.text)))
+    c.in_ok-shared.ensures ∙ ap chars (sym (ap encode_utf8_all c.in_ok-shared.ensures ∙ encodes-chars (string_bytes c.in_ok-text.text) (IsUtf8-string_bytes c.in_ok-text.text)))
 
 pub returns-clause-shown : goal.returns-clause-shown
 returns-clause-shown g c =
-    let spelled : string_bytes c.in_ok-text.text ≡ encode_utf8_all c.from.result = sym (ap encode_utf8_all c.from.ensures ∙ encodes-chars (string_bytes c.in_ok-text.text) (IsUtf8-string_bytes c.in_ok-text.text)) in
+    let spelled : string_bytes c.in_ok-text.text ≡ encode_utf8_all c.in_ok-shared.shared = sym (ap encode_utf8_all c.in_ok-shared.ensures ∙ encodes-chars (string_bytes c.in_ok-text.text) (IsUtf8-string_bytes c.in_ok-text.text)) in
     let width = c.width_of-width.ensures ∙ ap width_of (to_z-of_z w64 c.args.max_length (search rules)) in
     let shown = rw (width, spelled) at c.in_ok-text.ensures.shown in
     reading_gives _ _ shown (omega arith) (λ m a. told_ok object_fault (values_in c.args.layout.now m) c.args.addr (width_of c.args.max_length) c.args.visits.now _ _ a)

@@ -11,4 +11,4 @@ returns c =
     let name = c.as_bytes.result.now in
     let appended : string_bytes c.to_str_lossy_into.new.dest ≡ string_bytes c.new-text.result ++ encode_utf8_all (lossy_chars name) = c.in_ok-to_str_lossy_into.ensures.ok refl in
     let text = appended ∙ ap (λ bs. bs ++ encode_utf8_all (lossy_chars name)) c.new-text.ensures.bytes in
-    c.from.ensures ∙ ap chars text ∙ chars-encodes (lossy_chars name) (scalars-lossy_chars name) ∙ ap lossy_chars c.as_bytes.ensures
+    c.in_ok-shared.ensures ∙ ap chars text ∙ chars-encodes (lossy_chars name) (scalars-lossy_chars name) ∙ ap lossy_chars c.as_bytes.ensures
