@@ -30,6 +30,12 @@ returns-then-length-eq0-clause-answer g c =
     let length_is : c.u64_in-length.result ≡ u64_in c.in_ok-object.object.items c.args.layout.now.string.length = c.u64_in-length.ensures ∙ ap (λ b. u64_in b c.args.layout.now.string.length) c.deref.ensures.value in
     reads_next 2 _ (consults_record c.args.layout.now String c.in_ok-object.ensures.answer) (reads_known 0 _ _ (λ m. record { is = length_zero c.args.layout.now m c.args.addr c.in_ok-object.object.items _ (omega arith) ∙ ap Ok (sym (empty_text _ _ c.in_ok-empty.ensures c.new.ensures.bytes)) })) (omega arith)
 
+pub returns-in_err-empty-clause-answer : goal.returns-in_err-empty-clause-answer
+returns-in_err-empty-clause-answer g c =
+    let p = err_from_is_err_and c.from_residual-in_err-empty.result c.from_residual-in_err-empty.ensures.1 in
+    rw (p.1, p.2) (reading_gives 2 _ (consults_record c.args.layout.now String c.in_ok-object.ensures.answer) (omega arith)
+    (λ m h. record { is = tt }))
+
 pub returns-then-length-ge-LENGTH_LIMIT-clause-early : goal.returns-then-length-ge-LENGTH_LIMIT-clause-early
 unfolding text_at
 returns-then-length-ge-LENGTH_LIMIT-clause-early g c =
