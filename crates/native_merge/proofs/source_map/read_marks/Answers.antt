@@ -56,8 +56,8 @@ returns-clause-map g c =
     let inv = c.loop-line.invariant in
     let t = YieldsList-end (YieldsList-from_lines c.args.contents.now cc) c.loop-line.yielded _ c.loop-line.yielded_by _ _ c.in-None.is c.next.ensures.steps in
     reads_all (cython_file (g.F.Sources.seen c.args.sources.now).exists c.args.cpp_filename.now (option_map (λ name. name.now) c.args.«module»))
-    c.args.contents.now c.loop-line.count c.from-file.result c.loop-line.marks.items c.push.new.self.items (inv.counted ∙ t.1) inv.goes_on
-    (c.from-file.ensures ∙ ap chars c.new.ensures.bytes) c.in_ok-push.ensures.items
+    c.args.contents.now c.loop-line.count c.in_ok-file.file c.loop-line.marks.items c.push.new.self.items (inv.counted ∙ t.1) inv.goes_on
+    (c.in_ok-file.ensures ∙ ap chars c.new.ensures.bytes) c.in_ok-push.ensures.items
 
 pub returns-clause-short : goal.returns-clause-short
 returns-clause-short g c =
