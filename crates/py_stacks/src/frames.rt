@@ -30,10 +30,7 @@ fn mark_last(frames: &mut Vec<Frame>)
 
 /// The same frame, whose two texts share their bytes with those of the same characters that were met before. The one
 /// error is want of memory.
-pub fn share_texts(
-    texts: &mut SharedTexts,
-    frame: Frame,
-) -> Result<Frame, AllocError>
+pub fn share_texts(texts: &mut SharedTexts, frame: Frame) -> Result<Frame, AllocError>
     ensures { IfOk result (λ shared. shared ≡ frame) }
 {
     let Frame {
