@@ -48,6 +48,7 @@ CHECKS = (
     Check("messages"),
     Check("quotes"),
     Check("definitions"),
+    Check("../layouts/records_table"),
     Check("links"),
     Check("typed"),
     Check("versions"),
