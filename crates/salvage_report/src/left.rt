@@ -121,6 +121,42 @@ fn memory_of(
     )
 }
 
+/// What is left of an opened process, of which this was told.
+fn left_of(
+    process: Process,
+    named: bool,
+    salvaged: Salvaged,
+    told: Told,
+    check: Option<LayoutCheck>,
+    memory: MemoryTold,
+    values: ShownValues,
+) -> Left
+    ensures { result ≡ record {
+      signal = process.notes.signal;
+      process = process.notes.process;
+      version = process.version;
+      named = named;
+      salvaged = salvaged;
+      told = told;
+      check = check;
+      memory = memory;
+      values = values;
+    } }
+{
+    let Process { notes, version, .. } = process;
+    Left {
+        signal: notes.signal,
+        process: notes.process,
+        version,
+        named,
+        salvaged,
+        told,
+        check,
+        memory,
+        values,
+    }
+}
+
 /// The text of what is left of an opened process, or that no interpreter is shown.
 fn shown_left(
     alloc: Global,
@@ -168,18 +204,7 @@ fn shown_left(
         return Err(Cause::NoInterpreter { addresses, members });
     }
     let named = process.untold.is_some();
-    let Process { notes, version, .. } = process;
-    let left = Left {
-        signal: notes.signal,
-        process: notes.process,
-        version,
-        named,
-        salvaged,
-        told,
-        check,
-        memory,
-        values,
-    };
+    let left = left_of(process, named, salvaged, told, check, memory, values);
     Ok(shown(alloc, words, &left)?)
 }
 

@@ -1,4 +1,4 @@
-use Rattle.std.proofs.Common.{◌≡◌, ◌≢◌, List, [], ◌∷◌, ap, arith, length, refl, rules, subst}
+use Rattle.std.proofs.Common.{◌≡◌, ◌≢◌, ◌∙◌, List, [], ◌∷◌, ap, arith, length, refl, rules, subst, sym}
 use Rattle.std.proofs.lemmas.Result.{err_from_is_err_and}
 use Rattle.salvage_words.specs.Seen.{asked_salvage}
 use Rattle.image_memory.specs.Backed.{regions_of}
@@ -11,6 +11,9 @@ use Rattle.shown_values.specs.Values.{AreShown}
 use Rattle.shown_values.proofs.Keeping.{shown_plain}
 use Rattle.salvage_report.specs.LayoutChecked.{CheckIs, process_checked}
 use Rattle.salvage_report.specs.Sections.{AreTold}
+use Rattle.repr_json.specs.Shown.{HasNoFloat}
+use Rattle.salvage_report.specs.Texts.{shown_left}
+use Rattle.salvage_report.specs.declared.left.Left.{Left}
 use Rattle.salvage_report.proofs.Remains.{none_left, some_left}
 use Rattle.salvage_report.proofs.left.shown_left.Goals as goal
 
@@ -67,7 +70,8 @@ returns-then-is_empty c = λ bytes is crashed ne.
     memory c.in_ok-values.values values _ refl none
 
 pub shown-requires : goal.shown-requires
-shown-requires c = shown_plain c.args.words.now.json c.in_ok-memory.memory.values _ c.in_ok-values.values c.in_ok-values.ensures
+shown-requires c = subst (λ (left : Left). HasNoFloat left.values) (sym c.left_of-left.ensures)
+    (shown_plain c.args.words.now.json c.in_ok-memory.memory.values _ c.in_ok-values.values c.in_ok-values.ensures)
 
 pub returns-in_err-shown : goal.returns-in_err-shown
 returns-in_err-shown c =
@@ -96,4 +100,5 @@ returns c = λ bytes is crashed.
     let some : salvaged.interpreters.items ≢ [] = λ none. full (ap length none) in
     some_left (asked_salvage c.args.words.now) c.args.tables.now c.args.process c.args.crash salvaged c.in_ok-salvaged.ensures bytes
     c.args.images.now is crashed told sections c.in_ok-check.check check c.in_ok-memory.memory
-    memory c.in_ok-values.values values c.is_some-named.result c.is_some-named.ensures c.in_ok-shown.field-0.items some c.in_ok-shown.ensures
+    memory c.in_ok-values.values values c.is_some-named.result c.is_some-named.ensures c.in_ok-shown.field-0.items some
+    (c.in_ok-shown.ensures ∙ ap (shown_left (asked_salvage c.args.words.now)) c.left_of-left.ensures)
