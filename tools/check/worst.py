@@ -275,8 +275,10 @@ def apart() -> Iterator[Case]:
                memory=100, seconds=TEN)
     yield Case("a heap of 16,777,216 words, by 200 segments over the same 1 MB, each of a record whose first thread is another's", SALVAGE,
                lambda: files_of(of_heap_words(), program=image_of_codes()), HEAP_ENDS, seconds=2 * TEN)
+    yield Case("4096 threads of the same 4096 frames, all shown", GOOD, lambda: with_bss(2, interpreter("a.py", "f", 4096, 4096)), "0",
+               memory=2200, seconds=2 * TEN)
     yield Case("1024 threads of the same 1024 frames", GOOD, lambda: with_bss(2, interpreter("a.py", "f", 1024, 1024)), "0",
-               memory=300, seconds=TEN)
+               memory=200, seconds=TEN)
     yield Case("`slim`: 400 threads of 16,384 members that aren't shown", OVER_CORES["slim"], of_core(lambda: of_hidden_frames(400)), "0",
                memory=2600, seconds=3 * TEN)
     yield Case("a layout file of 3.6 MB of inline tables", GOOD, lambda: files_of(small(), text=layout_of_tables(300_000)),
