@@ -1,3 +1,4 @@
+pub mod Named
 pub mod Once
 pub mod Filling
 pub mod Counted
