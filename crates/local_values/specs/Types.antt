@@ -42,6 +42,7 @@ type_cost = 17
 abbrev pub name_among : (ℕ → Option (List ℕ)) → List ℕ → ℕ → Option (List ℕ)
 name_among name addresses a = if list_any (nat_eq a) addresses then name a else None
 
+-- a name that a map has, where that is known
 abbrev pub known_name : Option (Option (List ℕ)) → Option (List ℕ)
 known_name None = None
 known_name (Some name) = name
