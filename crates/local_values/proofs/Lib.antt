@@ -3,3 +3,4 @@ pub mod Once
 pub mod Filling
 pub mod Counted
 pub mod Rounds
+pub mod Growing
