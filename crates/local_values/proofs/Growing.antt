@@ -1,4 +1,4 @@
--- Shares of nodes by one more `-l`, where four times as many items are shown of a value, and it has four times the nodes.
+-- Shares of nodes by one more `-l`: four times as many items are shown of a value, and it has four times the nodes.
 use Rattle.std.proofs.Common.{◌≡◌, ℕ, zero, suc, ◌+◌, ◌-◌, ◌*◌, ◌/◌, ◌≤◌, ◌<◌, ◌⊎◌, ⊎_elim, inl, inr, false, eqb, refl}
 use Rattle.std.proofs.Common.{sym, subst, arith}
 use Rattle.std.proofs.lemmas.Bool.{cases_order}
@@ -112,7 +112,8 @@ first_shown items n m l wide le any four h = ⊎_elim
 
 grown_some : (items n m count k l : ℕ) → 64 ≤ items → 0 < k → Grown items n m → k ≡ shown_count items n count
     → l ≡ shown_count (4 * items) m count → Grown items (share n k) (share m l)
-grown_some items n m count k l wide some h shown more = ⊎_elim all_of (⊎_elim some_of (λ past. absurd (omega (arith, past, shown))))
+grown_some items n m count k l wide some h shown more =
+    ⊎_elim all_of (⊎_elim some_of (λ past. absurd (omega (arith, past, shown))))
     (cases_order k count)
   where
     all_of : k ≡ count → Grown items (share n k) (share m l)
@@ -124,7 +125,8 @@ grown_some items n m count k l wide some h shown more = ⊎_elim all_of (⊎_eli
     some_of less = ⊎_elim
         (λ is. subst (λ x. Grown items (share n x) (share m l)) (sym is)
         (first_shown items n m l wide (omega (arith, is, shown))
-        (⊎_elim (λ a. omega (arith, is, some, shown, more, less, a.0)) (λ b. omega (arith, is, some, shown, more, less, b.0)) h)
+        (⊎_elim (λ a. omega (arith, is, some, shown, more, less, a.0))
+        (λ b. omega (arith, is, some, shown, more, less, b.0)) h)
         (omega (arith, more)) h))
         (λ rest. ⊎_elim (λ under. none_left items n m k l some (omega (arith, under, less, shown)))
         (λ past. absurd (omega (arith, past, shown))) rest) (cases_order k items)
@@ -164,7 +166,8 @@ first_entries items n m l wide le any four h = ⊎_elim
 
 entries_some : (items n m count k l : ℕ) → 64 ≤ items → 0 < k → Grown items n m → k ≡ shown_entries items n count
     → l ≡ shown_entries (4 * items) m count → Grown items (share n (2 * k)) (share m (2 * l))
-entries_some items n m count k l wide some h shown more = ⊎_elim all_of (⊎_elim some_of (λ past. absurd (omega (arith, past, shown))))
+entries_some items n m count k l wide some h shown more =
+    ⊎_elim all_of (⊎_elim some_of (λ past. absurd (omega (arith, past, shown))))
     (cases_order k count)
   where
     all_of : k ≡ count → Grown items (share n (2 * k)) (share m (2 * l))
@@ -176,13 +179,16 @@ entries_some items n m count k l wide some h shown more = ⊎_elim all_of (⊎_e
     some_of less = ⊎_elim
         (λ is. subst (λ x. Grown items (share n (2 * x)) (share m (2 * l))) (sym is)
         (first_entries items n m (2 * l) wide (omega (arith, is, shown))
-        (⊎_elim (λ a. omega (arith, is, some, shown, more, less, a.0)) (λ b. omega (arith, is, some, shown, more, less, b.0)) h)
+        (⊎_elim (λ a. omega (arith, is, some, shown, more, less, a.0))
+        (λ b. omega (arith, is, some, shown, more, less, b.0)) h)
         (omega (arith, more)) h))
-        (λ rest. ⊎_elim (λ under. entries_left items n m (2 * k) (2 * l) (omega (arith, some)) (omega (arith, under, less, shown, some)))
+        (λ rest. ⊎_elim (λ under. entries_left items n m (2 * k) (2 * l) (omega (arith, some))
+        (omega (arith, under, less, shown, some)))
         (λ past. absurd (omega (arith, past, shown))) rest) (cases_order k items)
 
 -- at least as many entries are shown by more
-pub entries_more : (items n m count : ℕ) → Grown items n m → shown_entries items n count ≤ shown_entries (4 * items) m count
+pub entries_more : (items n m count : ℕ) → Grown items n m
+    → shown_entries items n count ≤ shown_entries (4 * items) m count
 entries_more items n m count h = ⊎_elim (λ a. omega (arith, a.0)) (λ b. omega (arith, b.0)) h
 
 -- and so it is of the nodes of each key and value

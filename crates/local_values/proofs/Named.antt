@@ -109,6 +109,7 @@ module _ {name : Memory → ℕ → Option (List ℕ)} {cost : ℕ} {s0 s1 : See
   pub naming_lost : {s2 : Seen} {P : Memory → Type 0} → Naming name cost s0 s1 all number held → number < length all
       → Reading cost s1 s2 P → Reading (length all * cost) s0 s2 P
   naming_lost {P = P} t less read =
-      let whole : cost * (number + 1) ≤ length all * cost = le_cost cost (number + 1) (length all) (omega (arith, less)) in
+      let whole : cost * (number + 1) ≤ length all * cost =
+      le_cost cost (number + 1) (length all) (omega (arith, less)) in
       let sum = more_cost cost number in
       reading_gives _ _ (reading_then P t.reading read (λ m a b. b)) (omega (arith, whole, sum, t.few)) (λ m h. h)

@@ -1,5 +1,5 @@
--- The names of the types of values. That an object names its type is CPython's rule (`ob_type`); that the name is told as
--- a class is told among values is this project's.
+-- The names of the types of values. That an object names its type is CPython's rule (`ob_type`); that the name is told
+-- as a class is told among values is this project's.
 use Rattle.std.specs.Prelude.{ℕ, ◌+◌, List, nat_eq, if◌then◌else◌, Option, Some, None, Ok, Err}
 use Rattle.std.specs.BTreeMap.{BTreeMap, get}
 use Rattle.std.specs.List.{list_any}

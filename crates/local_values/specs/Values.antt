@@ -82,8 +82,8 @@ unfoldable pub type_in : LocalValues → ℕ → Option (List ℕ)
 type_in values a = name_in values.names a
 
 -- the values of the locals of all frames that are shown, by so many `-l`, and the names of their types
-pub record AreLocalValues (l : Layout) (t : ReprTypes) (times : ℕ) (m : Memory) (interpreters : List SalvagedInterpreter)
-    (values : LocalValues) : Type 0 where
+pub record AreLocalValues (l : Layout) (t : ReprTypes) (times : ℕ) (m : Memory)
+    (interpreters : List SalvagedInterpreter) (values : LocalValues) : Type 0 where
   pub are : AreValues l t m (rounds_of times) (shown_addresses interpreters) (value_in values) values.left_out
   pub types : (a : ℕ) → type_in values a ≡ name_among (type_name_at l t m) (shown_addresses interpreters) a
 

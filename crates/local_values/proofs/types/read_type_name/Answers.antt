@@ -10,7 +10,8 @@ pub returns-in-Ok : goal.returns-in-Ok
 unfolding type_name_at
 returns-in-Ok g c =
     reading_gives _ _
-    (reading_then (λ m. IfOk c.read_class_name.result (λ name. name ≡ type_name_at c.args.layout.now c.args.types.now m c.args.addr))
+    (reading_then (λ m. IfOk c.read_class_name.result
+    (λ name. name ≡ type_name_at c.args.layout.now c.args.types.now m c.args.addr))
     (reading_short c.in-Ok.ensures.answer) c.read_class_name.ensures
     (λ m word h. subst (λ found. IfOk c.read_class_name.result
     (λ name. name ≡ class_name_if c.args.layout.now c.args.types.now m found)) (sym word.is) h))

@@ -38,6 +38,7 @@ returns g t c =
     (held_in c.read_round.new.values) c.min-left_out.result)
     c.in_ok-found.ensures c.in_ok-behind.ensures (λ m found round.
     rounds_more c.args.layout.now c.args.types.now m c.args.rounds c.args.addresses.now c.at-limits.result
-    (held_in c.in_ok-found.found.values) _ c.in_ok-found.found.left_out _ c.in_ok-behind.behind c.if-rounds-eq0.false c.at-limits.ensures found round
+    (held_in c.in_ok-found.found.values) _ c.in_ok-found.found.left_out _ c.in_ok-behind.behind
+    c.if-rounds-eq0.false c.at-limits.ensures found round
     c.min-left_out.ensures))
     (omega (arith, more, cost)) (λ m h. h)

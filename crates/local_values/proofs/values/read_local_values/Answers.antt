@@ -30,7 +30,11 @@ returns g c =
     let second = c.deref-2.ensures.value ∙ c.in_ok-addresses.ensures in
     reading_gives _ _
     (reading_then (λ m. AreLocalValues c.args.layout.now c.args.types.now c.args.l m c.args.interpreters.now
-    (record { values = c.in_ok-found.found.values; left_out = c.in_ok-found.found.left_out; names = c.in_ok-names.names }))
+    (record {
+      values = c.in_ok-found.found.values;
+      left_out = c.in_ok-found.found.left_out;
+      names = c.in_ok-names.names;
+    }))
     c.in_ok-found.ensures c.in_ok-names.ensures (λ m found names.
     local_are c.args.layout.now c.args.types.now c.args.l m c.args.interpreters.now _ _ _ _ first second
     c.rounds_of-rounds.ensures found names))
