@@ -106,10 +106,11 @@ def check_member(tree: object) -> None:
     if tree["locals_fault"] is not None:
         check_kind(tree["locals_fault"], FAULTS)
     for it in tree["locals"] or ():
-        need_keys(it, "address", "arg", "name", "repr", "value")
+        need_keys(it, "address", "arg", "kind", "name", "repr", "type", "value")
         need_address(it["address"])
         need_truths(it["arg"])
-        need_texts(it["name"], it["repr"] or "")
+        need(it["kind"] == ("argument" if it["arg"] else "local"), f"{it['kind']!r} of a variable that is {it['arg']} an argument")
+        need_texts(it["name"], it["repr"] or "", it["type"] or "")
         need((it["repr"] is None) == (it["value"] is None), "a value without its text, or a text without its value")
         need("\n" not in (it["repr"] or ""), f"{it['repr']!r} has a line's end")
         check_value(it["value"]) if it["value"] is not None else None

@@ -2,7 +2,7 @@
 use Rattle.std.proofs.Common.{◌≡◌, ◌≢◌, ℕ, zero, suc, ◌+◌, ◌-◌, ◌<◌, ◌≤◌, Bool, true, false, ◌||◌, nat_eq, if◌then◌else◌}
 use Rattle.std.proofs.Common.{◌*◌, List, [], ◌∷◌, ◌++◌, get_or, take, drop, length, ap, sym, ◌∙◌, refl, arith, eqb-true, drop-cons}
 use Rattle.std.proofs.Common.{append_assoc, append-nil, add-one, length-drop}
-use Rattle.std.specs.Prelude.{Option, Some, None, cond, option_map}
+use Rattle.std.specs.Prelude.{Option, Some, cond, option_map}
 use Rattle.std.specs.BTreeMap.{is_at}
 use Rattle.std.specs.Ordering.{nat_cmp}
 use Rattle.std.specs.List.{list_any}
@@ -16,11 +16,11 @@ use Rattle.local_values.specs.Nodes.{nodes_of}
 use Rattle.local_values.specs.Values.{node_limit, value_among, within}
 use Rattle.local_values.proofs.Once.{among_more, same_key}
 
-or_true : (b : Bool) → (b || true) ≡ true
+pub or_true : (b : Bool) → (b || true) ≡ true
 or_true true = refl
 or_true false = refl
 
-or_false : (b : Bool) → (b || false) ≡ b
+pub or_false : (b : Bool) → (b || false) ≡ b
 or_false true = refl
 or_false false = refl
 
@@ -108,10 +108,10 @@ module _ {value : ℕ → Tree} {all : List ℕ} {number left : ℕ} {before hel
       t.read ∙ ap (λ xs. take number all ++ within value left xs) (drop_end all number full)
       ∙ ap (λ xs. take number all ++ xs) (within_end value left) ∙ append-nil (take number all)
 
-more_cost : (cost number : ℕ) → cost * number + cost ≡ cost * (number + 1)
+pub more_cost : (cost number : ℕ) → cost * number + cost ≡ cost * (number + 1)
 more_cost cost number = grind arith
 
-le_cost : (cost number count : ℕ) → number ≤ count → cost * number ≤ count * cost
+pub le_cost : (cost number count : ℕ) → number ≤ count → cost * number ≤ count * cost
 le_cost cost number count le = grind arith
 
 -- the same of what is read in a process's memory, with its reads

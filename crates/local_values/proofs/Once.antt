@@ -1,6 +1,6 @@
 -- Numbers that are kept once each, and keys of maps that are numbers.
 use Rattle.std.proofs.Common.{◌≡◌, ℕ, ◌+◌, ◌<◌, Bool, true, false, cond, ◌||◌, nat_eq, if◌then◌else◌, List, [], ◌∷◌, ◌++◌}
-use Rattle.std.proofs.Common.{get_or, take, length, ap, sym, ◌∙◌, refl, arith, rules, eqb-true, ne_eqb, eq-eqb}
+use Rattle.std.proofs.Common.{get_or, take, length, ap, sym, ◌∙◌, refl, arith, eqb-true}
 use Rattle.std.specs.Prelude.{not}
 use Rattle.std.specs.BTreeMap.{is_at}
 use Rattle.std.specs.List.{list_any}

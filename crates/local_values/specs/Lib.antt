@@ -1,3 +1,4 @@
 pub mod Addresses
 pub mod Nodes
+pub mod Types
 pub mod Values

@@ -16,6 +16,7 @@ use Rattle.py_reprs.specs.Trees.{Tree, tree_of}
 use Rattle.py_reprs.specs.Values.{repr_at, value_cost}
 use Rattle.local_values.specs.Addresses.{shown_addresses}
 use Rattle.local_values.specs.Nodes.{nodes_of}
+use Rattle.local_values.specs.Types.{name_among, name_in, type_cost, type_name_at}
 use Rattle.local_values.specs.declared.values.LocalValues.{LocalValues}
 
 -- how many nodes all of them have together, until no other is begun
@@ -68,18 +69,23 @@ left_by value (suc rounds) addresses =
 -- the values of some addresses, by so many rounds: each has the one of memory, no other address has one, and how many
 -- have none is told
 pub record AreValues (l : Layout) (t : ReprTypes) (m : Memory) (rounds : ℕ) (addresses : List ℕ)
-    (values : LocalValues) : Type 0 where
-  pub are : (a : ℕ) → value_in values a ≡ value_by (value_at l t m) rounds addresses a
-  pub left_out : values.left_out ≡ left_by (value_at l t m) rounds addresses
+    (held : ℕ → Option Tree) (left : ℕ) : Type 0 where
+  pub are : (a : ℕ) → held a ≡ value_by (value_at l t m) rounds addresses a
+  pub past : left ≡ left_by (value_at l t m) rounds addresses
 
 -- how many rounds there are by so many `-l`
 abbrev pub rounds_of : ℕ → ℕ
 rounds_of times = min (max times 1) 5
 
--- the values of the locals of all frames that are shown, by so many `-l`
-abbrev pub AreLocalValues : Layout → ReprTypes → (times : ℕ) → Memory → List SalvagedInterpreter → LocalValues → Type 0
-AreLocalValues l t times m interpreters values =
-    AreValues l t m (rounds_of times) (shown_addresses interpreters) values
+-- the name of the type of the value at an address
+unfoldable pub type_in : LocalValues → ℕ → Option (List ℕ)
+type_in values a = name_in values.names a
+
+-- the values of the locals of all frames that are shown, by so many `-l`, and the names of their types
+pub record AreLocalValues (l : Layout) (t : ReprTypes) (times : ℕ) (m : Memory)
+    (interpreters : List SalvagedInterpreter) (values : LocalValues) : Type 0 where
+  pub are : AreValues l t m (rounds_of times) (shown_addresses interpreters) (value_in values) values.left_out
+  pub types : (a : ℕ) → type_in values a ≡ name_among (type_name_at l t m) (shown_addresses interpreters) a
 
 -- how many reads one value takes at most
 abbrev pub local_cost : Limits → ℕ
@@ -89,6 +95,10 @@ local_cost b = value_cost b b.nodes
 unfoldable pub rounds_cost : (count rounds : ℕ) → ℕ
 rounds_cost count zero = 0
 rounds_cost count (suc rounds) = rounds_cost count rounds + count * local_cost (limits_at (suc rounds))
+
+-- and with the names of their types
+abbrev pub values_cost : (count rounds : ℕ) → ℕ
+values_cost count rounds = rounds_cost count rounds + count * type_cost
 
 -- ---- as it is read
 

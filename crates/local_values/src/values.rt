@@ -6,10 +6,12 @@ ghost use Rattle.py_reprs.specs.Trees.{tree_of};
 ghost use Rattle.local_values.specs.Addresses.{shown_addresses};
 ghost use Rattle.py_reprs.specs.Values.{repr_at};
 ghost use Rattle.local_values.specs.Values.{AreLocalValues, AreValues, IsRound, held_in, local_cost, rounds_cost};
-ghost use Rattle.local_values.specs.Values.{rounds_of, value_in, with_value};
+ghost use Rattle.local_values.specs.Values.{rounds_of, type_in, value_in, values_cost, with_value};
 
 use crate::addresses::shown_addresses;
 use crate::nodes::left_after;
+use crate::types::read_type_names;
+use elf64_core::Text;
 use process_memory::ProcessMemory;
 use py_fields::Layout;
 use py_fronts::SalvagedInterpreter;
@@ -25,6 +27,7 @@ const NODE_LIMIT: u64 = 1_048_576;
 pub struct LocalValues {
     values: BTreeMap<u64, Repr>,
     left_out: u64,
+    names: BTreeMap<u64, Option<Text>>,
 }
 
 impl LocalValues {
@@ -43,6 +46,24 @@ impl LocalValues {
     {
         self.left_out
     }
+
+    /// The name of the type of the value at an address; none where no local that is shown has that, or the name can't
+    /// be read. It is known of what is left out too.
+    pub fn type_name(&self, addr: u64) -> Option<&Text>
+        ensures { option_copied result ≡ type_in self.now addr }
+    {
+        match self.names.get(&addr) {
+            Some(name) => name.as_ref(),
+            None => None,
+        }
+    }
+}
+
+/// The values that were read in some rounds.
+#[derive(Drop)]
+struct Rounds {
+    values: BTreeMap<u64, Repr>,
+    left_out: u64,
 }
 
 /// Keeps the value at an address. The one error is want of memory.
@@ -91,13 +112,14 @@ fn read_rounds<P: ProcessMemory>(
     types: &ReprTypes,
     rounds: u32,
     addresses: &[u64],
-) -> Result<LocalValues, ReprError>
+) -> Result<Rounds, ReprError>
     requires sound { IsSound layout.now }
     ensures { Reading (rounds_cost (length addresses.now) rounds) (P.seen process.old) (P.seen process.new)
-        (λ m. IfOk result (AreValues layout.now types.now m rounds addresses.now)) }
+        (λ m. IfOk result (λ found. AreValues layout.now types.now m rounds addresses.now
+        (held_in found.values) found.left_out)) }
 {
     if rounds == 0 {
-        return Ok(LocalValues {
+        return Ok(Rounds {
             values: BTreeMap::new(alloc),
             left_out: addresses.len() as u64,
         });
@@ -115,7 +137,7 @@ fn read_rounds<P: ProcessMemory>(
         &mut values,
     )?;
     let left_out = found.left_out.min(behind);
-    Ok(LocalValues { values, left_out })
+    Ok(Rounds { values, left_out })
 }
 
 /// How many rounds there are by so many `-l`: from one to five.
@@ -134,7 +156,7 @@ fn rounds_of(times: u32) -> u32
 /// addresses that were read in no round are left out, and counted.
 ///
 /// What is not in memory is told in the values. The one error is want of memory. At most as many reads for each address
-/// and round as `read_repr` makes.
+/// and round as `read_repr` makes, and 17 for each address.
 pub fn read_local_values<P: ProcessMemory>(
     alloc: Global,
     process: &mut P,
@@ -144,11 +166,17 @@ pub fn read_local_values<P: ProcessMemory>(
     interpreters: &[SalvagedInterpreter],
 ) -> Result<LocalValues, ReprError>
     requires sound { IsSound layout.now }
-    ensures { Reading (rounds_cost (length (shown_addresses interpreters.now)) (rounds_of l))
+    ensures { Reading (values_cost (length (shown_addresses interpreters.now)) (rounds_of l))
         (P.seen process.old) (P.seen process.new)
         (λ m. IfOk result (AreLocalValues layout.now types.now l m interpreters.now)) }
 {
     let addresses = shown_addresses(alloc, interpreters)?;
     let rounds = rounds_of(l);
-    read_rounds(alloc, process, layout, types, rounds, &addresses)
+    let found = read_rounds(alloc, process, layout, types, rounds, &addresses)?;
+    let names = read_type_names(alloc, process, layout, types, &addresses)?;
+    Ok(LocalValues {
+        values: found.values,
+        left_out: found.left_out,
+        names,
+    })
 }

@@ -1,10 +1,11 @@
 //! Values as they are shown.
-ghost use Rattle.std.specs.Prelude.{◌≡◌, IfOk, None, OnOk, ℕ, option_map, string_bytes};
+ghost use Rattle.std.specs.Prelude.{◌≡◌, IfOk, None, OnOk, ℕ, option_copied, option_map, string_bytes};
 ghost use Rattle.serde_json.specs.View.{view};
 ghost use Rattle.py_reprs.specs.Trees.{tree_of};
 ghost use Rattle.repr_texts.specs.Writing.{Writes};
 
 use crate::value::repr_value;
+use elf64_core::Text;
 use py_reprs::Repr;
 use repr_texts::push_repr;
 use serde_json::Value;
@@ -20,26 +21,30 @@ fn repr_text(alloc: Global, value: &Repr) -> Result<String, AllocError>
     Ok(text)
 }
 
-/// Values as they are shown, by their addresses: the text of each, and its JSON where that is wanted.
+/// Values as they are shown, by their addresses: the text of each, its JSON where that is wanted, and the name of its
+/// type.
 ///
 /// Each is made once, however often it is shown.
 #[derive(Drop)]
 pub struct ShownValues {
     texts: BTreeMap<u64, String>,
     trees: BTreeMap<u64, Value>,
+    types: BTreeMap<u64, Option<Text>>,
 }
 
 impl ShownValues {
-    ghost use Rattle.repr_json.specs.Shown.{KeepsJson, KeepsText, data_in, text_in};
+    ghost use Rattle.repr_json.specs.Shown.{KeepsJson, KeepsText, KeepsType, data_in, text_in, type_in};
 
     /// None at any address.
     pub fn new(alloc: Global) -> ShownValues
         ensures texts { (a : ℕ) → text_in result a ≡ None }
         ensures trees { (a : ℕ) → data_in result a ≡ None }
+        ensures types { (a : ℕ) → type_in result a ≡ None }
     {
         ShownValues {
             texts: BTreeMap::new(alloc),
             trees: BTreeMap::new(alloc),
+            types: BTreeMap::new(alloc),
         }
     }
 
@@ -57,6 +62,16 @@ impl ShownValues {
         self.trees.get(&addr)
     }
 
+    /// The name of its type; none where none was kept.
+    pub fn type_at(&self, addr: u64) -> Option<&Text>
+        ensures { option_copied result ≡ type_in self.now addr }
+    {
+        match self.types.get(&addr) {
+            Some(name) => name.as_ref(),
+            None => None,
+        }
+    }
+
     /// Keeps the text of a value for an address. The one error is want of memory.
     pub fn keep_text(&mut self, alloc: Global, addr: u64, value: &Repr) -> Result<(), AllocError>
         ensures { OnOk result (KeepsText addr (tree_of value.now) self.old self.new) }
@@ -72,6 +87,14 @@ impl ShownValues {
     {
         let tree = repr_value(alloc, value)?;
         self.trees.insert(addr, tree)?;
+        Ok(())
+    }
+
+    /// Keeps the name of the type of a value for an address, or that it has none. The one error is want of memory.
+    pub fn keep_type(&mut self, addr: u64, name: Option<Text>) -> Result<(), AllocError>
+        ensures { OnOk result (KeepsType addr name self.old self.new) }
+    {
+        self.types.insert(addr, name)?;
         Ok(())
     }
 }

@@ -29,7 +29,7 @@ use Rattle.py_fronts.specs.Salvaged.{first_crashed}
 use Rattle.salvage_json.specs.Kinds.{end_tree, fault_or_null, fault_tree, lock_tree, why_tree}
 use Rattle.salvage_json.specs.Members.{frame_tree, kept_text, kept_tree, local_tree, shown_tree, standing_tree}
 use Rattle.salvage_json.specs.Members.{standings_tree, text_tree}
-use Rattle.repr_json.specs.Shown.{HasNoFloat, data_in, kept_float, text_in}
+use Rattle.repr_json.specs.Shown.{HasNoFloat, data_in, kept_float, text_in, type_in}
 use Rattle.repr_json.specs.declared.shown.ShownValues.{ShownValues}
 use Rattle.thread_names.specs.Lookup.{name_of, threads_named}
 use Rattle.thread_names.specs.declared.names.InterpreterNames.{InterpreterNames}
@@ -109,7 +109,8 @@ tree v h a = elim (data_in v a) as (λ d. kept_float d ≡ false → has_float (
     [ Some d ↦ λ e. e | None ↦ λ e. refl ] (h a)
 
 local : (v : ShownValues) → HasNoFloat v → (l : LocalVariable) → has_float (local_tree v l) ≡ false
-local v h l = λ i. kept (text_in v l.addr) (text_tree l.repr) (text l.repr) i || (tree v h l.addr i || false)
+local v h l = λ i. kept (text_in v l.addr) (text_tree l.repr) (text l.repr) i
+    || (text (type_in v l.addr) i || (tree v h l.addr i || false))
 
 shown : (v : ShownValues) → HasNoFloat v → (ls : Option (Vec LocalVariable Global)) → has_float (shown_tree v ls) ≡ false
 shown v h (Some ls) = items (local_tree v) (local v h) ls.items

@@ -1,5 +1,5 @@
 -- The JSON of members: frames with their locals, and those that have no names.
-use Rattle.std.specs.Prelude.{ℕ, List, map, Option, Some, None, Vec, codes, encode_utf8_all}
+use Rattle.std.specs.Prelude.{ℕ, Bool, if◌then◌else◌, List, map, Option, Some, None, Vec, codes, encode_utf8_all}
 use Rattle.std.specs.Global.{Global}
 use Rattle.serde_json.specs.Data.{Data, array, boolean, member, no_members, null, number, object, string, unsigned}
 use Rattle.serde_json.specs.View.{items_of}
@@ -10,7 +10,7 @@ use Rattle.py_fronts.specs.declared.standing.Standing.{Standing}
 use Rattle.py_fronts.specs.declared.standing.Standing.TheVariants as standing
 use Rattle.py_fronts.specs.Lines.{shown_line}
 use Rattle.salvage_json.specs.Kinds.{address_tree, fault_or_null, why_tree}
-use Rattle.repr_json.specs.Shown.{data_in, text_in}
+use Rattle.repr_json.specs.Shown.{data_in, text_in, type_in}
 use Rattle.repr_json.specs.declared.shown.ShownValues.{ShownValues}
 
 -- a text in UTF-8, or null
@@ -28,13 +28,19 @@ abbrev pub kept_tree : Option Data → Data
 kept_tree (Some tree) = tree
 kept_tree None = null
 
+-- what a variable is to its function
+abbrev pub kind_word : (is_argument : Bool) → List ℕ
+kind_word is_argument = if is_argument then codes "argument" else codes "local"
+
 abbrev pub local_tree : ShownValues → LocalVariable → Data
 local_tree values l = object (
     member (codes "address") (address_tree l.addr) (
     member (codes "arg") (boolean l.arg) (
+    member (codes "kind") (string (kind_word l.arg)) (
     member (codes "name") (string (encode_utf8_all l.name)) (
     member (codes "repr") (kept_text (text_in values l.addr) (text_tree l.repr)) (
-    member (codes "value") (kept_tree (data_in values l.addr)) no_members)))))
+    member (codes "type") (text_tree (type_in values l.addr)) (
+    member (codes "value") (kept_tree (data_in values l.addr)) no_members)))))))
 
 abbrev pub locals_tree : ShownValues → List LocalVariable → Data
 locals_tree values locals = array (items_of (map (λ l. local_tree values l) locals))

@@ -1,9 +1,9 @@
 //! Members: frames with their locals, and those that have no names.
 ghost use Rattle.std.specs.Prelude.{◌≡◌, IfOk};
 ghost use Rattle.serde_json.specs.View.{view};
-ghost use Rattle.repr_json.specs.Shown.{data_in, text_in};
-ghost use Rattle.salvage_json.specs.Members.{frame_tree, kept_text, kept_tree, local_tree, locals_tree, shown_tree};
-ghost use Rattle.salvage_json.specs.Members.{standing_tree, standings_tree, text_tree};
+ghost use Rattle.repr_json.specs.Shown.{data_in, text_in, type_in};
+ghost use Rattle.salvage_json.specs.Members.{frame_tree, kept_text, kept_tree, kind_word, local_tree, locals_tree};
+ghost use Rattle.salvage_json.specs.Members.{shown_tree, standing_tree, standings_tree, text_tree};
 
 use crate::kind::{address_value, fault_or_null, why_value};
 use elf64_core::Text;
@@ -48,6 +48,23 @@ fn tree_value(values: &ShownValues, addr: u64) -> Result<Value, AllocError>
     }
 }
 
+/// What a variable is to its function.
+fn kind_word(arg: bool) -> &'static str
+    ensures { result.now ≡ kind_word arg }
+{
+    if arg { "argument" } else { "local" }
+}
+
+/// The name of the type of a value, where one is kept for its address, or null.
+fn type_value(alloc: Global, values: &ShownValues, addr: u64) -> Result<Value, AllocError>
+    ensures { IfOk result (λ value. view value ≡ text_tree (type_in values.now addr)) }
+{
+    match values.type_at(addr) {
+        Some(name) => Value::try_from_str(alloc, name.as_str()),
+        None => Ok(Value::Null),
+    }
+}
+
 fn local_value(
     alloc: Global,
     values: &ShownValues,
@@ -58,11 +75,14 @@ fn local_value(
     let address = address_value(alloc, local.addr)?;
     let repr = repr_value(alloc, values, local)?;
     let tree = tree_value(values, local.addr)?;
+    let class = type_value(alloc, values, local.addr)?;
     json!(in alloc; {
         "address": address,
         "arg": local.arg,
+        "kind": kind_word(local.arg),
         "name": local.name.as_str(),
         "repr": repr,
+        "type": class,
         "value": tree
     })
 }

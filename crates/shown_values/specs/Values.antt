@@ -6,10 +6,11 @@ use Rattle.serde_json.specs.Data.{Data}
 use Rattle.serde_json.specs.Written.{has_float}
 use Rattle.py_reprs.specs.Trees.{Tree}
 use Rattle.repr_texts.specs.Writing.{Writes}
-use Rattle.repr_json.specs.Shown.{data_in, text_in}
+use Rattle.repr_json.specs.Shown.{KeepsType, data_in, text_in, type_in}
 use Rattle.repr_json.specs.Trees.{IsJson}
 use Rattle.repr_json.specs.declared.shown.ShownValues.{ShownValues}
 use Rattle.local_values.specs.Values.{value_in}
+use Rattle.local_values.specs.Values.{type_in as type_read}
 use Rattle.local_values.specs.declared.values.LocalValues.{LocalValues}
 
 -- a text is there where a value is, and it is one of the value's
@@ -29,15 +30,21 @@ abbrev pub value_of : Option LocalValues → List ℕ → ℕ → Option Tree
 value_of None addresses a = None
 value_of (Some values) addresses a = if list_any (nat_eq a) addresses then value_in values a else None
 
+-- so is the name of its type
+abbrev pub type_of : Option LocalValues → List ℕ → ℕ → Option (List ℕ)
+type_of None addresses a = None
+type_of (Some values) addresses a = if list_any (nat_eq a) addresses then type_read values a else None
+
 -- a value where JSON is asked for
 abbrev pub for_json : Bool → Option Tree → Option Tree
 for_json json value = if json then value else None
 
--- the values at some addresses are shown, and no others
+-- the values at some addresses are shown, with the names of their types, and no others
 pub record AreShown (json : Bool) (values : Option LocalValues) (addresses : List ℕ) (shown : ShownValues)
     : Type 0 where
   pub texts : (a : ℕ) → IsTextOf (value_of values addresses a) (text_in shown a)
   pub trees : (a : ℕ) → IsJsonOf (for_json json (value_of values addresses a)) (data_in shown a)
+  pub types : (a : ℕ) → type_in shown a ≡ type_of values addresses a
 
 -- the JSON of a value is shown at an address from now on, where JSON is asked for, and no other is changed
 abbrev pub KeepsTree : Bool → ℕ → Tree → ShownValues → ShownValues → Type 0
@@ -50,8 +57,16 @@ pub record Keeps (json : Bool) (addr : ℕ) (value : Tree) (old new : ShownValue
   pub text : IsTextOf (Some value) (text_in new addr)
   pub texts : (a : ℕ) → nat_eq addr a ≡ false → text_in new a ≡ text_in old a
   pub tree : KeepsTree json addr value old new
+  pub types : (a : ℕ) → type_in new a ≡ type_in old a
 
 -- so is one that there may be
 abbrev pub KeepsFound : Bool → ℕ → Option Tree → ShownValues → ShownValues → Type 0
 KeepsFound json addr None old new = new ≡ old
 KeepsFound json addr (Some value) old new = Keeps json addr value old new
+
+-- and the name of its type is
+pub record KeepsOne (json : Bool) (addr : ℕ) (value : Option Tree) (name : Option (List ℕ)) (old new : ShownValues)
+    : Type 0 where
+  pub between : ShownValues
+  pub found : KeepsFound json addr value old between
+  pub named : KeepsType addr name between new

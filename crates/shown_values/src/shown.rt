@@ -1,10 +1,12 @@
 //! The values of locals, as they are shown.
-ghost use Rattle.std.specs.Prelude.{IfOk, OnOk, Some};
+ghost use Rattle.std.specs.Prelude.{◌≡◌, IfOk, OnOk, Some, option_copied};
 ghost use Rattle.local_values.specs.Addresses.{shown_addresses};
 ghost use Rattle.py_reprs.specs.Trees.{tree_of};
-ghost use Rattle.local_values.specs.Values.{value_in};
-ghost use Rattle.shown_values.specs.Values.{AreShown, Keeps, KeepsFound};
+ghost use Rattle.local_values.specs.Values.{type_in, value_in};
+ghost use Rattle.repr_json.specs.Shown.{KeepsType};
+ghost use Rattle.shown_values.specs.Values.{AreShown, Keeps, KeepsFound, KeepsOne};
 
+use elf64_core::Text;
 use local_values::{LocalValues, shown_addresses};
 use py_fronts::SalvagedInterpreter;
 use py_reprs::Repr;
@@ -44,6 +46,39 @@ fn keep_found(
     }
 }
 
+/// A name once more, if there is one.
+fn shared(name: Option<&Text>) -> Result<Option<Text>, AllocError>
+    ensures { IfOk result (λ own. own ≡ option_copied name.entry) }
+{
+    match name {
+        Some(name) => Ok(Some(name.share()?)),
+        None => Ok(None),
+    }
+}
+
+/// Keeps the name of the type of the value at an address, or that it has none.
+fn keep_type(shown: &mut ShownValues, values: &LocalValues, addr: u64) -> Result<(), AllocError>
+    ensures { OnOk result (KeepsType addr (type_in values.now addr) shown.old shown.new) }
+{
+    let name = shared(values.type_name(addr))?;
+    shown.keep_type(addr, name)
+}
+
+/// Keeps what there is for an address.
+fn keep_one(
+    alloc: Global,
+    json: bool,
+    shown: &mut ShownValues,
+    values: &LocalValues,
+    addr: u64,
+) -> Result<(), AllocError>
+    ensures { OnOk result (KeepsOne json addr (value_in values.now addr) (type_in values.now addr)
+        shown.old shown.new) }
+{
+    keep_found(alloc, json, shown, values, addr)?;
+    keep_type(shown, values, addr)
+}
+
 /// The values at some addresses, as they are shown.
 fn show_each(
     alloc: Global,
@@ -55,13 +90,13 @@ fn show_each(
 {
     let mut shown = ShownValues::new(alloc);
     for addr in addresses {
-        keep_found(alloc, json, &mut shown, values, *addr)?;
+        keep_one(alloc, json, &mut shown, values, *addr)?;
     }
     Ok(shown)
 }
 
-/// The values of the locals of some interpreters, as they are shown: none where none are asked for. The one error is
-/// want of memory.
+/// The values of the locals of some interpreters, as they are shown, with the names of their types: none where none are
+/// asked for. The one error is want of memory.
 pub fn shown_values(
     alloc: Global,
     json: bool,

@@ -4,7 +4,7 @@
     tools/check/real/real_values.py --salvage crates/pysalvage/out/pysalvage [PYTHON..]
 
 In each Python that is installed a process dies that keeps some hundred values in the locals of a frame, of every kind, objects with
-attributes too (values_child.py), and has said of each its `repr` and its tree. By one `-l`, by two and by three, in a core with all of memory and
+attributes too (values_child.py), and has said of each its `repr`, its tree, the name of its type and whether it is an argument. By one `-l`, by two and by three, in a core with all of memory and
 in one as they are usually written, each value is told equal, or shorter with its count: in the tree each part that is shown is the
 process's own, and what is left out is counted; in the text that has no count `repr` itself stands. What more is shown by more `l`
 leaves nothing out that was shown. Values of kinds that are told as objects of their types alone are counted. The status is 0 exactly
@@ -160,6 +160,10 @@ def check_value(name: str, told: Tree, wanted: Tree, is_2: bool) -> str:
     tree = told["value"]
     if tree is None or told["repr"] is None:
         raise Failure(f"{name} has no value: {told}")
+    if told["type"] is None or told["type"].rsplit(".", 1)[-1] != wanted["type"]:
+        raise Failure(f"{name} is of the type {told['type']}, and the process said {wanted['type']}")
+    if told["kind"] != ("argument" if wanted["is_argument"] else "local") or told["arg"] != wanted["is_argument"]:
+        raise Failure(f"{name} is {told['kind']}, and the process has it otherwise")
     if is_bare(tree, wanted["tree"], is_2):
         return "bare"
     for line in others(tree, wanted["tree"], is_2):

@@ -416,9 +416,16 @@ def run(own):
     yield keep(own[0])
 
 
+def said_of_local(name, value):
+    """What is said of a local: of its value, of what type that is, and whether it is an argument."""
+    code = keep.__code__
+    is_argument = name in code.co_varnames[:code.co_argcount]
+    return dict(said_of(value), type=type(value).__name__, is_argument=is_argument)
+
+
 def tell(own):
     """Says what some locals are."""
-    print(json.dumps(dict((name, said_of(value)) for name, value in own.items())))
+    print(json.dumps(dict((name, said_of_local(name, value)) for name, value in own.items())))
     sys.stdout.flush()
 
 

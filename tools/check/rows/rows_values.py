@@ -250,14 +250,20 @@ def coroutines() -> Iterator[Row]:
 
 def trees() -> Iterator[Row]:
     """JSON."""
-    objects = heap_of_locals(lambda objects, numbers, texts: [
-        list_of(number(1), text_of("s"))(objects, numbers, texts), of_digits(3, 7, 7, 7)(objects, numbers, texts)], "ab", 0)
+    def values(objects: Objects, numbers: int, texts: int) -> List[int]:
+        objects.of_class(numbers, objects.klass("type", 31))
+        return [list_of(number(1), text_of("s"))(objects, numbers, texts), of_digits(3, 7, 7, 7)(objects, numbers, texts)]
+
+    objects = heap_of_locals(values, "ab", 1)
     frame = struct.unpack_from("<Q", objects.data, THREAD + 24 - HEAP)[0]
     slots = struct.unpack_from("<2Q", objects.data, frame + group("frame")["locals"] - HEAP)
     large = str(7 + 7 * 2 ** 30 + 7 * 2 ** 60)
     of_list = {"items": [{"kind": "int", "value": 1}, {"kind": "str", "length": 1, "value": "s"}], "kind": "list", "more": 0}
-    locals_of = [{"address": hex(slots[0]), "arg": False, "name": "a", "repr": "[1, 's']", "value": of_list},
-                 {"address": hex(slots[1]), "arg": False, "name": "b", "repr": large, "value": {"kind": "int", "value": large}}]
+    of_number = {"kind": "int", "value": large}
+    locals_of = [
+        {"address": hex(slots[0]), "arg": True, "kind": "argument", "name": "a", "repr": "[1, 's']", "type": None, "value": of_list},
+        {"address": hex(slots[1]), "arg": False, "kind": "local", "name": "b", "repr": large, "type": "int", "value": of_number},
+    ]
     member = lambda name, own: {"filename": "a.py", "line": 0, "locals": own, "locals_fault": None, "name": name}
     frames = {"between": 0, "end": {"kind": "whole"}, "first": [member("f", locals_of), member("<module>", [])], "last": [], "met": 2}
     thread = {"address": hex(THREAD), "crashed": False, "frames": frames, "gil": False, "name": None, "os_thread_id": None,

@@ -59,7 +59,9 @@ def report_by_dump(trees: List[Tree], known: Known, core: str, most: Optional[in
 
 def local_tree(tree: Tree) -> Tree:
     """A local."""
-    return {"address": hex(tree["addr"]), "arg": tree["arg"], "name": tree["name"], "repr": tree["repr"], "value": None}
+    kind = "argument" if tree["arg"] else "local"
+    return {"address": hex(tree["addr"]), "arg": tree["arg"], "kind": kind, "name": tree["name"], "repr": tree["repr"], "type": None,
+            "value": None}
 
 
 def member_tree(tree: Tree) -> Tree:

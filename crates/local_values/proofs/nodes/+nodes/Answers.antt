@@ -1,7 +1,7 @@
-use Rattle.std.proofs.Common.{◌≡◌, ◌-◌, map, ap, ◌∙◌, sym, refl, arith}
+use Rattle.std.proofs.Common.{◌-◌, ap, ◌∙◌, arith}
 use Rattle.py_reprs.proofs.Views.{tree-Instance, tree-Items, tree-Pairs}
-use Rattle.py_reprs.specs.Trees.{tree_of, trees_of}
-use Rattle.local_values.specs.Nodes.{nodes_in, nodes_of}
+use Rattle.py_reprs.specs.Trees.{tree_of}
+use Rattle.local_values.specs.Nodes.{nodes_of}
 use Rattle.local_values.proofs.Counted.{leaf_nodes, left_all, left_behind, left_behind_both, left_more, left_none, nodes_read}
 use Rattle.local_values.proofs.nodes.+nodes.Goals as goal
 

@@ -1,4 +1,4 @@
-use Rattle.std.proofs.Common.{◌≡◌, ◌*◌, ap, arith, length, refl}
+use Rattle.std.proofs.Common.{◌*◌, ap, arith, length, refl}
 use Rattle.std.specs.Prelude.{option_map}
 use Rattle.std.specs.BTreeMap.{is_at}
 use Rattle.std.specs.Map.{lookup}
@@ -6,13 +6,13 @@ use Rattle.std.specs.Ordering.{nat_cmp}
 use Rattle.std.proofs.lemmas.Result.{err_from_is_err_and}
 use Rattle.process_memory.proofs.Reading.{reading_gives, reading_none, reading_then}
 use Rattle.py_reprs.specs.Trees.{tree_of}
-use Rattle.local_values.specs.Values.{AreValues, local_cost}
+use Rattle.local_values.specs.Values.{AreValues, held_in, local_cost}
 use Rattle.local_values.proofs.Rounds.{cost_more, rounds_more, rounds_none}
 use Rattle.local_values.proofs.values.+read_rounds.Goals as goal
 
 pub returns-then-rounds-eq0 : goal.returns-then-rounds-eq0
 returns-then-rounds-eq0 g t c =
-    reading_none _ _ _ (λ m. rounds_none c.args.layout.now c.args.types.now m c.args.rounds c.args.addresses.now _
+    reading_none _ _ _ (λ m. rounds_none c.args.layout.now c.args.types.now m c.args.rounds c.args.addresses.now _ _
     c.if-rounds-eq0.true (λ a. ap (λ es. option_map tree_of (lookup (is_at (nat_cmp a)) es)) c.new.ensures.empty) refl)
 
 pub returns-in_err-found : goal.returns-in_err-found
@@ -35,9 +35,10 @@ returns g t c =
     let cost = ap (λ b. length c.args.addresses.now * local_cost b) c.at-limits.ensures in
     reading_gives _ _
     (reading_then (λ m. AreValues c.args.layout.now c.args.types.now m c.args.rounds c.args.addresses.now
-    (record { values = c.read_round.new.values; left_out = c.min-left_out.result }))
+    (held_in c.read_round.new.values) c.min-left_out.result)
     c.in_ok-found.ensures c.in_ok-behind.ensures (λ m found round.
     rounds_more c.args.layout.now c.args.types.now m c.args.rounds c.args.addresses.now c.at-limits.result
-    c.in_ok-found.found _ c.in_ok-behind.behind c.if-rounds-eq0.false c.at-limits.ensures found round
+    (held_in c.in_ok-found.found.values) _ c.in_ok-found.found.left_out _ c.in_ok-behind.behind
+    c.if-rounds-eq0.false c.at-limits.ensures found round
     c.min-left_out.ensures))
     (omega (arith, more, cost)) (λ m h. h)

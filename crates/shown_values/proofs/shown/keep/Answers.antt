@@ -1,13 +1,8 @@
 use Rattle.std.proofs.Common.{sym, subst}
-use Rattle.std.specs.Prelude.{OnOk, Result, Ok, Err}
 use Rattle.py_reprs.specs.Trees.{tree_of}
 use Rattle.shown_values.specs.Values.{Keeps}
-use Rattle.shown_values.proofs.Keeping.{keeps_both, keeps_text}
+use Rattle.shown_values.proofs.Keeping.{keeps_both, keeps_text, on_ok}
 use Rattle.shown_values.proofs.shown.keep.Goals as goal
-
-on_ok : {T E P Q : Type 0} (r : Result T E) → (P → Q) → OnOk r P → OnOk r Q
-on_ok (Ok x) f h = f h
-on_ok (Err e) f h = h
 
 pub returns-then-json : goal.returns-then-json
 returns-then-json c =

@@ -7,14 +7,14 @@ use Rattle.shown_values.proofs.shown.show_each.Goals as goal
 pub loop-addr-init : goal.loop-addr-init
 loop-addr-init c =
     none_shown c.args.json (Some c.args.values.now) c.new-shown.result c.new-shown.ensures.texts
-    c.new-shown.ensures.trees (λ a. refl)
+    c.new-shown.ensures.trees c.new-shown.ensures.types (λ a. refl)
 
 pub loop-addr-preserved : goal.loop-addr-preserved
 loop-addr-preserved c =
     let xs = c.args.addresses.now in
     let i = c.loop-addr.addr-index in
-    shown_more c.args.json c.args.values.now xs i (get_or xs i 0) 0 c.loop-addr.shown c.keep_found.new.shown
-    c.loop-addr-test.true refl c.loop-addr.invariant c.in_ok-keep_found.ensures
+    shown_more c.args.json c.args.values.now xs i (get_or xs i 0) 0 c.loop-addr.shown c.keep_one.new.shown
+    c.loop-addr-test.true refl c.loop-addr.invariant c.in_ok-keep_one.ensures
 
 pub returns : goal.returns
 returns c =
