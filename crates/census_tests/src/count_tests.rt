@@ -49,6 +49,35 @@ const DICTS: [u64; 18] = [
 /// without a hash.
 const DICT: [u64; 8] = [1, 0x8000, 1, 0, 0x7030, 0, 1, 0x1_0303];
 
+/// The same of a class of types.
+const TYPES: [u64; 18] = [
+    880,
+    40,
+    0,
+    0,
+    0,
+    0,
+    0,
+    0,
+    0,
+    0,
+    0,
+    0,
+    0,
+    0,
+    0,
+    0,
+    0,
+    0x8000_4000,
+];
+
+/// A type at 0xe000 without slots, and its keys behind it, which three have: eight slots, an index of eight bytes, and
+/// entries without a hash.
+const KIND: [u64; 29] = [
+    1, 0xf000, 0, 0, 0, 0, 0, 0, 0, 0, 0, 0, 0, 0, 0, 0, 0, 0, 0, 0, 0, 0, 0, 0, 0, 0xe0d8, 0, 3,
+    0x2_0303,
+];
+
 /// `set`, as `PLAIN` is told: 200 bytes each.
 const SETS: [u64; 18] = [200, 0, 0, 0, 0, 0, 0, 0, 0, 0, 0, 0, 0, 0, 0, 0, 0, 0x4000];
 
@@ -90,6 +119,8 @@ fn memory(alloc: Global) -> Result<Part, AllocError> {
     pieces.push(piece(alloc, 0xb020, &SETS)?)?;
     pieces.push(piece(alloc, 0xb100, &BASE)?)?;
     pieces.push(piece(alloc, 0xc000, &SET)?)?;
+    pieces.push(piece(alloc, 0xe000, &KIND)?)?;
+    pieces.push(piece(alloc, 0xf020, &TYPES)?)?;
     Ok(Part::of(alloc, pieces))
 }
 
@@ -107,7 +138,7 @@ fn counted_by(
     objects: &[u64],
 ) -> Result<Option<Census>, AllocError> {
     let mut memory = memory(alloc)?;
-    let Some(places) = size_places(sets, 3, 12) else {
+    let Some(places) = size_places(sets, 200, 3, 12) else {
         return Ok(None);
     };
     let census = count_objects(alloc, &mut memory, &layout(), &places, objects)?;
@@ -148,13 +179,13 @@ fn class(class: u64, objects: u64, bytes: u64, unknown: u64, largest: Largest) -
 
 #[test]
 fn versions_have_sizes(rt: HostRuntime) -> Result<(), Fail> {
-    match size_places(None, 3, 7) {
+    match size_places(None, 200, 3, 7) {
         Some(places) => {
             assert!(rt; places.head_size == 32 && places.words_before == WordsBefore::Never);
         }
         None => assert!(rt; false),
     }
-    assert!(rt; size_places(None, 3, 14) == None);
+    assert!(rt; size_places(None, 200, 3, 14) == None);
     Ok(())
 }
 
@@ -193,6 +224,17 @@ fn a_dict_has_a_block_of_keys(rt: HostRuntime) -> Result<(), Fail> {
     };
     assert!(rt; census.classes.len() == 1);
     assert!(rt; census.classes[0].bytes == 64 && census.classes[0].more == 120);
+    Ok(())
+}
+
+#[test]
+fn a_type_keeps_keys_that_dicts_share(rt: HostRuntime) -> Result<(), Fail> {
+    let Some(census) = counted(rt.alloc(), &[0xe000])? else {
+        assert!(rt; false);
+        return Ok(());
+    };
+    assert!(rt; census.classes.len() == 1);
+    assert!(rt; census.classes[0].bytes == 896 && census.classes[0].more == 120);
     Ok(())
 }
 

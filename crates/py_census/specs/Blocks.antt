@@ -1,8 +1,9 @@
 -- How many bytes an object has in blocks of their own: `list___sizeof___impl` of Objects/listobject.c, and
 -- `_PyDict_KeysSize` and `USABLE_FRACTION` of Objects/dictobject.c, by which a dict's keys count where their number of
 -- owners is 1 (`_PyDict_SizeOf`), and `set_sizeof` of Objects/setobject.c (`set___sizeof___impl` from 3.13 on), by
--- which a set's table counts where it isn't the small one of the set's own block. Other blocks are not counted, by this
--- project's rule.
+-- which a set's table counts where it isn't the small one of the set's own block, and `type___sizeof___impl` of
+-- Objects/typeobject.c, by which the keys that dicts share count with the type that keeps them (`ht_cached_keys`,
+-- Include/cpython/object.h). Other blocks are not counted, by this project's rule.
 use Rattle.std.specs.Prelude.{ℕ, ◌+◌, ◌*◌, ◌/◌, ◌%◌, ◌^◌, nat_eq, nat_lt, ◌&&◌, Bool, true, false, if◌then◌else◌}
 use Rattle.std.specs.Prelude.{Option, Some, None}
 use Rattle.process_memory.specs.Memory.{Memory, word_at}
@@ -74,6 +75,27 @@ keys_at p m (Some keys) = own_bytes p.keys_form (known (word_at m (keys + 0))) (
 abbrev pub dict_at : SizePlaces → Memory → (object : ℕ) → Option ℕ
 dict_at p m object = keys_at p m (known (word_at m (object + p.keys)))
 
+-- ---- types
+
+-- `Py_TPFLAGS_TYPE_SUBCLASS`
+abbrev pub is_type : (flags : ℕ) → Bool
+is_type flags = bit_is_set flags 31
+
+abbrev pub bytes_if : KeysForm → (word : Option ℕ) → Option ℕ
+bytes_if form None = None
+bytes_if form (Some word) = keys_bytes form word
+
+-- keys that a type keeps count with it, whoever else has them; a type may keep none
+abbrev pub shared_keys : SizePlaces → Memory → (keys : Option ℕ) → Option ℕ
+shared_keys p m None = None
+shared_keys p m (Some keys) =
+    if nat_eq keys 0 then Some 0 else bytes_if p.keys_form (known (word_at m (keys + 8)))
+
+-- the block of the keys that the dicts of a type's objects share: the collector tracks types of the heap alone
+-- (`type_is_gc` of Objects/typeobject.c), so each is taken for one
+abbrev pub type_at : SizePlaces → Memory → (object : ℕ) → Option ℕ
+type_at p m object = shared_keys p m (known (word_at m (object + p.cached_keys)))
+
 -- ---- sets
 
 -- entries of a table, one more than the mask, each of a key and a hash
@@ -104,7 +126,8 @@ set_at p m (Some true) object = table_at p m object
 
 abbrev pub block_at : SizePlaces → Memory → ClassSize → (object : ℕ) → Option ℕ
 block_at p m class object = if is_list class.flags then room_at p m object
-    else (if is_dict class.flags then dict_at p m object else set_at p m class.of_sets object)
+    else (if is_dict class.flags then dict_at p m object
+    else (if is_type class.flags then type_at p m object else set_at p m class.of_sets object))
 
 abbrev pub more_by : SizePlaces → Memory → Option ClassSize → (object : ℕ) → Option ℕ
 more_by p m None object = None

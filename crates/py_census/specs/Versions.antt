@@ -12,12 +12,13 @@ use Rattle.py_census.specs.declared.places.SizePlaces.{SizePlaces}
 use Rattle.py_census.specs.declared.places.WordsBefore.{WordsBefore}
 use Rattle.py_census.specs.declared.places.WordsBefore.TheVariants.{Never, Dict, DictOrReferences}
 
-abbrev pub places_with : Option SetClasses → (head_size : ℕ) → WordsBefore → KeysForm → SizePlaces
-places_with sets head_size words_before keys_form = record {
+abbrev pub places_with : Option SetClasses → (cached_keys head_size : ℕ) → WordsBefore → KeysForm → SizePlaces
+places_with sets cached_keys head_size words_before keys_form = record {
   count = 16;
   allocated = 32;
   keys = 32;
   keys_form = keys_form;
+  cached_keys = cached_keys;
   mask = 32;
   table = 40;
   own_table = 64;
@@ -29,14 +30,14 @@ places_with sets head_size words_before keys_form = record {
   words_before = words_before;
 }
 
-abbrev pub places_of_3 : Option SetClasses → (minor : ℕ) → Option SizePlaces
-places_of_3 sets minor =
-    if nat_eq minor 7 then Some (places_with sets 32 Never Slots)
-    else (if nat_eq minor 8 || nat_eq minor 9 || nat_eq minor 10 then Some (places_with sets 16 Never Slots)
-    else (if nat_eq minor 11 then Some (places_with sets 16 Dict Powers)
-    else (if nat_eq minor 12 || nat_eq minor 13 then Some (places_with sets 16 DictOrReferences Powers)
+abbrev pub places_of_3 : Option SetClasses → (cached_keys minor : ℕ) → Option SizePlaces
+places_of_3 sets cached_keys minor =
+    if nat_eq minor 7 then Some (places_with sets cached_keys 32 Never Slots)
+    else (if nat_eq minor 8 || nat_eq minor 9 || nat_eq minor 10 then Some (places_with sets cached_keys 16 Never Slots)
+    else (if nat_eq minor 11 then Some (places_with sets cached_keys 16 Dict Powers)
+    else (if nat_eq minor 12 || nat_eq minor 13 then Some (places_with sets cached_keys 16 DictOrReferences Powers)
     else None)))
 
--- where the sizes of objects of a version stand, by the classes of sets
-abbrev pub size_places : Option SetClasses → (major minor : ℕ) → Option SizePlaces
-size_places sets major minor = if nat_eq major 3 then places_of_3 sets minor else None
+-- where the sizes of objects of a version stand, by the classes of sets and the place of a type's cached keys
+abbrev pub size_places : Option SetClasses → (cached_keys major minor : ℕ) → Option SizePlaces
+size_places sets cached_keys major minor = if nat_eq major 3 then places_of_3 sets cached_keys minor else None

@@ -3,7 +3,8 @@ ghost use Rattle.std.specs.Prelude.{◌≡◌, ◌+◌, ◌*◌, ◌/◌, ◌<�
 ghost use Rattle.process_memory.specs.Seen.{Reading};
 ghost use Rattle.py_census.specs.Blocks.{block_at, dict_at, entry_size, index_width, is_dict, is_list, keys_at};
 ghost use Rattle.py_census.specs.Blocks.{keys_bytes, more_by, own_bytes, powered, powers_bytes, room_at, room_of};
-ghost use Rattle.py_census.specs.Blocks.{entries_bytes, is_small, set_at, slots_bytes, table_at, table_by};
+ghost use Rattle.py_census.specs.Blocks.{bytes_if, entries_bytes, is_small, is_type, set_at, shared_keys};
+ghost use Rattle.py_census.specs.Blocks.{slots_bytes, table_at, table_by, type_at};
 ghost use Rattle.py_census.specs.Sizes.{fits};
 
 use crate::sizes::{ClassSize, read_word};
@@ -17,6 +18,9 @@ const PY_TPFLAGS_LIST_SUBCLASS: u64 = 1 << 25;
 /// Its objects are dicts: CPython's `Py_TPFLAGS_DICT_SUBCLASS`.
 const PY_TPFLAGS_DICT_SUBCLASS: u64 = 1 << 29;
 
+/// Its objects are types: CPython's `Py_TPFLAGS_TYPE_SUBCLASS`.
+const PY_TPFLAGS_TYPE_SUBCLASS: u64 = 1 << 31;
+
 /// Whether the objects of a class of these flags are lists.
 fn is_list(flags: u64) -> bool
     ensures { result ≡ is_list flags }
@@ -29,6 +33,13 @@ fn is_dict(flags: u64) -> bool
     ensures { result ≡ is_dict flags }
 {
     flags / PY_TPFLAGS_DICT_SUBCLASS % 2 == 1
+}
+
+/// Whether they are types.
+fn is_type(flags: u64) -> bool
+    ensures { result ≡ is_type flags }
+{
+    flags / PY_TPFLAGS_TYPE_SUBCLASS % 2 == 1
 }
 
 /// How many bytes so many items of a list have.
@@ -171,6 +182,46 @@ fn read_dict<P: ProcessMemory>(
     }
 }
 
+/// How many bytes the block of keys has, where what they say is known.
+fn bytes_if(form: KeysForm, word: Option<u64>) -> Option<u64>
+    ensures { result ≡ bytes_if form word }
+{
+    let word = word?;
+    keys_bytes(form, word)
+}
+
+/// How many bytes the block of the keys at an address has, whoever has them; no bytes at 0. At most one read.
+fn read_shared<P: ProcessMemory>(
+    process: &mut P,
+    places: &SizePlaces,
+    keys: u64,
+) -> Result<Option<u64>, AllocError>
+    ensures { Reading 1 (P.seen process.old) (P.seen process.new)
+        (λ m. IfOk result (λ bytes. bytes ≡ shared_keys places.now m (Some keys))) }
+{
+    if keys == 0 {
+        return Ok(Some(0));
+    }
+    let word = read_word(process, keys, 8)?;
+    Ok(bytes_if(places.keys_form, word))
+}
+
+/// The same of the keys that a type keeps, which the dicts of its objects share. At most 2 reads.
+fn read_type<P: ProcessMemory>(
+    process: &mut P,
+    places: &SizePlaces,
+    object: u64,
+) -> Result<Option<u64>, AllocError>
+    ensures { Reading 2 (P.seen process.old) (P.seen process.new)
+        (λ m. IfOk result (λ bytes. bytes ≡ type_at places.now m object)) }
+{
+    let keys = read_word(process, object, places.cached_keys)?;
+    match keys {
+        None => Ok(None),
+        Some(keys) => read_shared(process, places, keys),
+    }
+}
+
 /// How many bytes the entries of a table have whose mask is given; none where 64 bits have no room for them.
 fn entries_bytes(mask: u64) -> Option<u64>
     ensures { result ≡ entries_bytes mask }
@@ -244,6 +295,9 @@ fn read_block<P: ProcessMemory>(
     }
     if is_dict(class.flags) {
         return read_dict(process, places, object);
+    }
+    if is_type(class.flags) {
+        return read_type(process, places, object);
     }
     read_set(process, places, class.of_sets, object)
 }

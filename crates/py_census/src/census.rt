@@ -25,7 +25,8 @@ pub struct CountedClass {
     /// stand in them from 3.13 on.
     pub bytes: u64,
     /// How many bytes they have beside these in blocks of their own, of those of which that is known: of lists the
-    /// items that they have room for, of dicts the keys that no other object has, of sets the tables.
+    /// items that they have room for, of dicts the keys that no other object has, of types the keys that the dicts of
+    /// their objects share, of sets the tables.
     pub more: u64,
     /// Of how many of them that is not known: a word that says it, or what their class says, is not in memory, or it is
     /// 2^64 bytes or more.

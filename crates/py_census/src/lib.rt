@@ -1,9 +1,9 @@
 //! A census of objects: of each class how many there are, and how many bytes their own blocks have.
 //!
-//! Beside it three kinds of blocks are counted: that of a list's items (`allocated`, at 32), that of a dict's keys
-//! (`ma_keys`, at 32) where no other object has the same (up to 3.10 a head of 40 bytes, from 3.11 on one of 32), and a
-//! set's table (`table`, at 40, of `mask` at 32 and one more entries) where it isn't the small one of its own block
-//! (`smalltable`, at 64).
+//! Beside it four kinds of blocks are counted: that of a list's items (`allocated`, at 32), that of a dict's keys
+//! (`ma_keys`, at 32) where no other object has the same (up to 3.10 a head of 40 bytes, from 3.11 on one of 32), that of
+//! the keys that the dicts of a type's objects share, once and with the type, and a set's table (`table`, at 40, of
+//! `mask` at 32 and one more entries) where it isn't the small one of its own block (`smalltable`, at 64).
 //!
 //! An object's own block has the bytes that its class states for each object, those of its items where it has a count
 //! of items, and what stands before the object: the head of the collector and the words of a managed dict. The values

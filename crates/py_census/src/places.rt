@@ -42,6 +42,8 @@ pub struct SizePlaces {
     pub keys: u64,
     /// How these say how many bytes their block has.
     pub keys_form: KeysForm,
+    /// In a type of the heap: the address of the keys that the dicts of its objects share, or 0.
+    pub cached_keys: u64,
     /// In a set: how many entries its table has, less one.
     pub mask: u64,
     /// In a set: the address of its table.

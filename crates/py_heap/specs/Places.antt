@@ -19,13 +19,18 @@ places_by l (Some lists) (Some sizes) (Some klass) (Some heap_type) =
     Some (record { lists = lists; sizes = sizes; classes = class_of l klass heap_type })
 places_by l _ _ _ _ = None
 
+-- where sizes stand, by where types keep the keys that dicts share
+abbrev pub sizes_of : Option SetClasses → (major minor : ℕ) → Option HeapTypeRecord → Option SizePlaces
+sizes_of sets major minor None = None
+sizes_of sets major minor (Some heap_type) = size_places sets heap_type.cached_keys major minor
+
 -- a number of a version, where it is a small one
 abbrev pub small : ℕ → Option ℕ
 small n = if nat_lt n 65536 then Some n else None
 
 abbrev pub places_of : Layout → Records → Option SetClasses → (major minor : Option ℕ) → Option HeapPlaces
 places_of l r sets (Some major) (Some minor) =
-    places_by l (list_places major minor) (size_places sets major minor) r.types.klass r.types.heap_type
+    places_by l (list_places major minor) (sizes_of sets major minor r.types.heap_type) r.types.klass r.types.heap_type
 places_of l r sets _ _ = None
 
 abbrev pub heap_places : Version → Layout → Records → Option SetClasses → Option HeapPlaces

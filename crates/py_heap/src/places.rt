@@ -43,9 +43,9 @@ pub fn heap_places(
     let major = small(version.major)?;
     let minor = small(version.minor)?;
     let lists = list_places(major, minor)?;
-    let sizes = size_places(sets, major, minor)?;
     let klass = records.types.klass?;
     let heap_type = records.types.heap_type?;
+    let sizes = size_places(sets, heap_type.cached_keys as u64, major, minor)?;
     Some(HeapPlaces {
         lists,
         sizes,

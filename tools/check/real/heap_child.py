@@ -47,6 +47,10 @@ class Plain:
         self.rows = []
 
 
+class Kind(type):
+    """Classes of which all have one sort of instances, whose dicts share their keys."""
+
+
 class Ring:
     def __init__(self):
         self.own = self
@@ -71,7 +75,7 @@ def largest(kind):
 
 def told(kind):
     """What is said."""
-    rows = census((Slotted, Pair, Rows, Table, Names, Fewer, Fixed, Plain, Ring, dict, list))
+    rows = census((Slotted, Pair, Rows, Table, Names, Fewer, Fixed, Kind, Plain, Ring, dict, list))
     # (its address lets a copy of the core be torn at its head. 3.12 has frozen some objects before it runs a program.)
     return json.dumps({"kind": kind, "classes": rows, "all": len(gc.get_objects()), "frozen": gc.get_freeze_count(),
                        "middle": id(KEPT[len(KEPT) // 2]),
@@ -97,6 +101,11 @@ FIXED = [Fixed(range(it % 70)) for it in range(MANY // 3)]
 for it in NAMES[::7]:
     it.clear()
 PLAIN = [Plain(it) for it in range(MANY)]
+# (each keeps the keys of its instances' dicts; `sys.getsizeof` has them with the class, and with no dict)
+KINDS = [Kind(f"Made{it}", (), {}) for it in range(100)]
+SHARING = [kind() for kind in KINDS for _ in range(5)]
+for number, it in enumerate(SHARING):
+    it.one, it.two = number, [number]
 for _ in range(MANY // 4):
     Ring()
 if KIND != "garbage":

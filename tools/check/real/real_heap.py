@@ -5,7 +5,7 @@
 
 For each Python that is installed: thousands of objects with slots, tuples, lists, dicts, sets, instances and cycles, in a process that aborts as it
 is, behind `gc.freeze`, with cycles that nothing refers to, and in a collection. How many objects there are of each class is as `gc.get_objects`
-had it, and the bytes of those with slots, tuples, lists, dicts and sets as `sys.getsizeof` had them; the three largest objects of these classes are
+had it, and the bytes of those with slots, tuples, lists, dicts, sets and types as `sys.getsizeof` had them; the three largest objects of these classes are
 those that `sys.getsizeof` and `id` had, where they are told; of all objects at most 300 are others, which came or
 went behind the count. A copy whose list is torn at an object says so there, and counts what stands before. 3.6 and before are told as not
 described. The status is 0 exactly where nothing that was tried failed.
@@ -43,8 +43,9 @@ KINDS = ("plain", "frozen", "garbage", "collecting")
 SETS = ("Names", "Fewer", "Fixed")
 """Classes of sets and of frozensets, small and large ones."""
 
-SIZED = ("Slotted", "Pair", "Rows", "Table", *SETS)
-"""The classes whose objects have no other blocks than their own, their items', their keys' and their tables."""
+SIZED = ("Slotted", "Pair", "Rows", "Table", "Kind", *SETS)
+"""The classes whose objects have no other blocks than their own, their items', their keys' and their tables; `Kind` is one of types, whose keys the
+dicts of their objects share."""
 
 COUNTED = (*SIZED, "Plain", "Ring")
 

@@ -36,7 +36,7 @@ HEADS = heads_of(FIRSTS[9])
 COLLECTING = 816
 """Where the 4 bytes stand there that say whether a collection runs."""
 
-BASIC_SIZE, ITEM_SIZE, FLAGS, BASE, DICT, QUALNAME = 32, 40, 168, 256, 264, 856
+BASIC_SIZE, ITEM_SIZE, FLAGS, BASE, DICT, QUALNAME, CACHED_KEYS = 32, 40, 168, 256, 264, 856, 864
 
 ON_HEAP, TRACKED, INTEGER, LIST, TUPLE, BYTES, TEXT, DICTS, TYPE = 9, 14, 24, 25, 26, 27, 28, 29, 31
 """The bits of a class's flags."""

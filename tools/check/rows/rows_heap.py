@@ -4,7 +4,7 @@ import json
 import struct
 from typing import Callable, Dict, Iterator, List, Optional, Sequence, Tuple
 
-from made_heaps import BYTES, COLLECTING, DICTS, FLAGS, HEADS, INTEGER, LIST, NOWHERE, QUALNAME, RECORDS, TRACKED, TUPLE, TYPE
+from made_heaps import BYTES, CACHED_KEYS, COLLECTING, DICTS, FLAGS, HEADS, INTEGER, LIST, NOWHERE, QUALNAME, RECORDS, TRACKED, TUPLE, TYPE
 from made_heaps import BASE, MadeHeap, of_minor, of_runtime, with_sets
 from row import Row
 from rows_salvage import GOOD, STRIPPED, broken_tree, salvage
@@ -18,7 +18,7 @@ GENERATIONS = {"youngest": "generation 0", "middle": "generation 1", "oldest": "
 
 def rows() -> Iterator[Row]:
     """All of them."""
-    for part in (counted, sizes, keys, sets, names, lost, ends, collecting, many, several, checked, of_runtimes, untold, trees):
+    for part in (counted, sizes, keys, shared, sets, names, lost, ends, collecting, many, several, checked, of_runtimes, untold, trees):
         yield from part()
 
 
@@ -84,7 +84,7 @@ SIZES: Tuple[Tuple[str, Sequence[int], Tuple[int, int], Sequence[int], Tuple[int
     ("a list with more room than 64 bits have", (TRACKED, LIST), (40, 0), (0, 0, 2 ** 61), (56, 0, 0, 1)),
     ("bytes", (TRACKED, BYTES), (33, 1), (5,), (54, 0, 0, 0)),
     ("an integer below 0, of two digits", (TRACKED, INTEGER), (24, 4), (-2,), (48, 0, 0, 0)),
-    ("a class with three slots", (TRACKED, TYPE), (880, 40), (3,), (1016, 0, 0, 0)),
+    ("a class with three slots, that keeps no keys", (TRACKED, TYPE), (880, 40), (3, *[0] * 120), (1016, 0, 0, 0)),
     ("one that has no count of items", (TRACKED,), (24, 8), (3,), (40, 0, 0, 0)),
     ("one without a head of the collector", (), (24, 0), (), (24, 0, 0, 0)),
     ("with flags of later versions", (3, 4, TRACKED), (24, 0), (), (40, 0, 0, 0)),
@@ -127,6 +127,34 @@ def keys() -> Iterator[Row]:
         made.add("youngest", klass, 0, 0, it, 0)
     (_, first), (_, second), (_, third) = made.tops(klass, 0)
     yield told("keys: of one dict of three", made, head(3) + line(3, 192, "D", [(232, third), (64, first), (64, second)], 168, unread=1))
+
+
+def kept_by(made: MadeHeap, kind: int, keys: int, room: int = 880) -> int:
+    """One more type, of a class of types, that keeps these keys. Where it stands."""
+    return made.add("youngest", kind, *[0] * (CACHED_KEYS // 8 - 2), keys, *[0] * ((room - CACHED_KEYS) // 8 - 1))
+
+
+def shared() -> Iterator[Row]:
+    """Keys that several dicts share count once, with the type that keeps them."""
+    for what, owners, slots, more, unread in (
+        ("keys of three owners", 3, 8, 168, 0), ("keys of its own", 1, 8, 168, 0), ("256 slots", 9, 256, 40 + 512 + 170 * 24, 0),
+        ("more bytes than there may be", 2, 2 ** 60, 0, 1),
+    ):
+        made = MadeHeap()
+        at = kept_by(made, made.klass("type", 880, 40, (TRACKED, TYPE)), made.keys(owners, slots))
+        yield told(f"a type's keys: {what}", made, head(1) + line(1, 896, "type", [(896 + more, at)], more, unread=unread))
+    for what, keys, unread in (("none", 0, 0), ("not in memory", NOWHERE, 1)):
+        made = MadeHeap()
+        at = kept_by(made, made.klass("type", 880, 40, (TRACKED, TYPE)), keys)
+        yield told(f"a type's keys: {what}", made, head(1) + line(1, 896, "type", [(896, at)], unread=unread))
+    made = MadeHeap()
+    held = made.keys(4)
+    kind, table = made.klass("type", 880, 40, (TRACKED, TYPE)), made.klass("D", 48, 0, (TRACKED, DICTS))
+    at = kept_by(made, kind, held)
+    for _ in range(3):
+        made.add("youngest", table, 0, 0, held, 0)
+    yield told("a type's keys: those of three dicts count once", made, head(4) + line(1, 896, "type", [(896 + 168, at)], 168)
+               + line(3, 192, "D", made.tops(table, 64)))
 
 
 TABLES: Tuple[Tuple[str, Callable[[int], Tuple[int, int]], Tuple[int, int]], ...] = (
