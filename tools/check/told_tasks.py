@@ -120,17 +120,17 @@ class Memory:
         return Member(None, 0, {"address": hex(at), "kind": "future" if at == self.made.future else "object"})
 
     def chain(self, head: int) -> Tree:
-        """The chain from an object on: none of its members is there twice."""
+        """The chain from an object on, none of whose members is there twice; the last one stands first."""
         met: List[int] = []
         at, found = head, []
         while at not in met:
             member = self.standing(at)
             found += [member.told] if member.told else []
             if member.end:
-                return {"end": member.end, "members": found}
+                return {"end": member.end, "members": found[::-1]}
             met.append(at)
             at = member.awaited
-        return {"end": {"address": hex(at), "kind": "cycle"}, "members": found}
+        return {"end": {"address": hex(at), "kind": "cycle"}, "members": found[::-1]}
 
 
 def task(memory: Memory, number: int) -> Tuple[int, Tree]:

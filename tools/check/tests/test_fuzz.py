@@ -252,12 +252,12 @@ class Tellers(unittest.TestCase):
     def test_chains_of_tasks(self):
         memory = told_tasks.Memory(Random(1), 5)
         one, two = memory.heads[:2]
-        member = {"address": "", "frame": None, "kind": "coroutine"}
-        for second, end, count in ((told_tasks.Member(member, one), {"address": hex(one), "kind": "cycle"}, 2),
-                                   (told_tasks.Member(member, 0, {"kind": "created"}), {"kind": "created"}, 2),
-                                   (told_tasks.Member(None, 0, {"kind": "object"}), {"kind": "object"}, 1)):
-            memory.members.update({one: told_tasks.Member(member, two), two: second})
-            self.assertEqual(memory.chain(one), {"end": end, "members": [member] * count})
+        first, last = ({"address": it, "frame": None, "kind": "coroutine"} for it in ("first", "last"))
+        for second, end, members in ((told_tasks.Member(last, one), {"address": hex(one), "kind": "cycle"}, [last, first]),
+                                     (told_tasks.Member(last, 0, {"kind": "created"}), {"kind": "created"}, [last, first]),
+                                     (told_tasks.Member(None, 0, {"kind": "object"}), {"kind": "object"}, [first])):
+            memory.members.update({one: told_tasks.Member(first, two), two: second})
+            self.assertEqual(memory.chain(one), {"end": end, "members": members})
         kinds = {it["chain"]["end"]["kind"] for seed in range(200) for it in (told_tasks.task(told_tasks.Memory(Random(seed), 7), 0)[1],)}
         self.assertEqual(kinds, {"future", "yield", "created", "running", "finished", "not stored", "object", "unreadable", "cycle"})
         waiter = {"state": "finished"}
