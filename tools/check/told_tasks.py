@@ -11,14 +11,21 @@ from rows_tasks import tree_of
 from salvage_text import Tree, json_of, text_of
 from told import WORDS, Told, nowhere
 
-FRAME, RUNNING, CODE, LAST, BEHIND = 16, 24, 0, 32, 48
-"""Where a coroutine names its frame and says that it runs; a frame its last instruction, and the end of its stack."""
+FRAME, RUNNING, LAST, BOTTOM, BEHIND, BYTE = 16, 24, 32, 40, 48, 52
+"""Where a coroutine names its frame and says that it runs; a frame its last instruction, the begin of its stack, the end of that or how
+many values it has, and its state, where it says so."""
+
+COUNTED = (RECORDS.replace(b"stack_pointer = {bottom=40, top=48}", b"stack_depth = {bottom=40, depth=48, state=52}\nstates = {created=254, suspended=255, running=0}")
+           .replace(b"generator_running = {running=24}\n", b""))
+"""The same objects, where a frame counts the values on its stack and says its state, as in 3.10."""
+
+CREATED, SUSPENDED, RUNS = 254, 255, 0
 
 KINDS = (("coroutine", "coroutine"), ("generator", "generator"), ("async_generator", "async generator"))
 
 STATES = {0: "pending", 1: "cancelled", 2: "finished"}
 
-STANDINGS = ("awaits", "awaits", "awaits", "awaits", "yields", "created", "runs", "finished", "no stack", "a stack that is gone", "a frame that is gone",
+STANDINGS = ("awaits", "awaits", "awaits", "awaits", "yields", "created", "runs", "finished", "a state that is none", "no stack", "a stack that is gone", "a frame that is gone",
              "code that is gone", "a type of its name", "a type that is gone", "a name that is gone")
 """How a member of a chain may stand; most of them await."""
 
@@ -42,6 +49,7 @@ class Memory:
 
     def __init__(self, random: Random, count: int) -> None:
         self.random, self.made, self.members = random, Made(), {}  # type: Random, Made, Dict[int, Member]
+        self.is_counted, self.odd = random.random() < 0.5, random.choice((0, 0.1, 0.5))
         self.gone = nowhere(random)
         self.namesake = self.made.type_of("coroutine", 0)
         self.klass = self.made.objects.group("object")["klass"]
@@ -56,12 +64,14 @@ class Memory:
         objects, random = self.made.objects, self.random
         kind, word = random.choice(KINDS)
         objects.word(at + self.klass, self.made.types[kind])
-        # (most await the next one, so that chains are long)
+        # (most await the next one, so that chains are long; where none is odd all are one ring)
         near = self.heads[(number + 1) % len(self.heads)]
-        awaited = random.choice((near, near, near, random.choice(self.heads), random.choice(self.ends)))
+        awaited = random.choice((*self.heads, *self.ends)) if random.random() < self.odd else near
         objects.word(frame + 80, awaited)
+        if self.is_counted:
+            objects.word(frame + BEHIND, SUSPENDED << 32 | 1)
         shown: Tree = {"filename": "a.py", "line": number + 1, "name": f"f{number}"}
-        way = random.choice(STANDINGS) if random.random() < 0.5 else "awaits"
+        way = random.choice(STANDINGS) if random.random() < self.odd else "awaits"
         self.members[at] = self.stood(way, (at, frame, awaited), {"address": hex(at), "frame": shown, "kind": word})
 
     def stood(self, way: str, places: Tuple[int, int, int], told: Tree) -> Member:
@@ -69,31 +79,56 @@ class Memory:
         at, frame, awaited = places
         objects, gone, bare = self.made.objects, self.gone, {**told, "frame": None}
         code = objects.group("frame")["code"]
-        if way == "yields":
-            objects.write(frame + LAST, (2).to_bytes(4, "little"))
-            return Member(told, 0, {"kind": "yield"})
-        if way == "created":
-            objects.write(frame + LAST, self.random.choice((2 ** 31, 2 ** 32 - 1)).to_bytes(4, "little"))
-            return Member(told, 0, {"kind": "created"})
-        if way == "runs":
-            objects.write(at + RUNNING, bytes((self.random.choice((1, 2, 255)),)))
-            return Member(told, 0, {"kind": "running"})
-        if way == "finished":
+        if way == "finished" or way == "a state that is none" and not self.is_counted:
             objects.word(at + FRAME, 0)
             return Member(bare, 0, {"kind": "finished"})
-        if way == "no stack":
-            objects.word(frame + BEHIND, self.random.randrange(8))
-            return Member(told, 0, {"kind": "not stored"})
-        if way == "a stack that is gone":
-            objects.word(frame + BEHIND, gone + 8)
-            return Member(told, 0, lost(gone, 8))
         if way == "a frame that is gone":
             objects.word(at + FRAME, gone)
             return Member(bare, 0, lost(gone, objects.group("frame")["size"]))
         if way == "code that is gone":
             objects.word(frame + code, gone)
             return Member(bare, 0, lost(gone + 64, 8))
-        return self.named(way, places, told)
+        end = self.counted(way, frame) if self.is_counted else self.pointed(way, at, frame)
+        return Member(told, 0, end) if end else self.named(way, places, told)
+
+    def counted(self, way: str, frame: int) -> Optional[Tree]:
+        """How a chain ends at a coroutine whose frame says its state, which is written; none where it doesn't by that."""
+        objects, random = self.made.objects, self.random
+        if way == "yields":
+            objects.write(frame + LAST, (1).to_bytes(4, "little"))
+            return {"kind": "yield"}
+        if way == "no stack":
+            objects.write(frame + BEHIND, random.choice((0, 2 ** 31, 2 ** 32 - 1)).to_bytes(4, "little"))
+            return {"kind": "not stored"}
+        if way == "a stack that is gone":
+            objects.word(frame + BOTTOM, self.gone)
+            return lost(self.gone, 8)
+        states = {"created": (CREATED, "created"), "runs": (RUNS, "running"), "a state that is none": (random.randrange(1, CREATED), "finished")}
+        if way not in states:
+            return None
+        byte, kind = states[way]
+        objects.write(frame + BYTE, bytes((byte,)))
+        return {"kind": kind}
+
+    def pointed(self, way: str, at: int, frame: int) -> Optional[Tree]:
+        """The same, where its frame has the end of its stack."""
+        objects, random = self.made.objects, self.random
+        if way == "yields":
+            objects.write(frame + LAST, (2).to_bytes(4, "little"))
+            return {"kind": "yield"}
+        if way == "created":
+            objects.write(frame + LAST, random.choice((2 ** 31, 2 ** 32 - 1)).to_bytes(4, "little"))
+            return {"kind": "created"}
+        if way == "runs":
+            objects.write(at + RUNNING, bytes((random.choice((1, 2, 255)),)))
+            return {"kind": "running"}
+        if way == "no stack":
+            objects.word(frame + BEHIND, random.randrange(8))
+            return {"kind": "not stored"}
+        if way == "a stack that is gone":
+            objects.word(frame + BEHIND, self.gone + 8)
+            return lost(self.gone, 8)
+        return None
 
     def named(self, way: str, places: Tuple[int, int, int], told: Tree) -> Member:
         """The same, of those whose type or name isn't what it has to be, or that await."""
@@ -187,4 +222,4 @@ def tasks(random: Random, command: str) -> Told:
     is_json = random.random() < 0.5
     out = json_of(tree) if is_json else text_of(tree, "core", ("--tasks",))
     words = (*WORDS["pysalvage"], "--records", "records", "--tasks", *(("-j",) if is_json else ()))
-    return Told(words, {**named(made.objects), "records": RECORDS}, 0, out=out.encode())
+    return Told(words, {**named(made.objects), "records": COUNTED if memory.is_counted else RECORDS}, 0, out=out.encode())
