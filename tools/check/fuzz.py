@@ -51,6 +51,7 @@ from section_text import check_missing
 from slim_reader import check_slim
 from told import TELLERS, Told, number_of
 from told_salvage import SALVAGE_TELLERS
+from told_tasks import tasks
 
 SECONDS, MEMORY = 10, 300 * 10 ** 6
 
@@ -65,7 +66,7 @@ FURTHER = {"merge": {7}, "slim": {8}, "reach": {9}}
 STATUSES = {**{name: {0, 1, 2, 3, 5, 6} | FURTHER.get(name, set()) for name in COMMANDS}, "frames": {0}}
 """The statuses that a command has, less 4: the output can always be written here."""
 
-TOLD = {**TELLERS, "pysalvage": SALVAGE_TELLERS}
+TOLD = {**TELLERS, "pysalvage": (*SALVAGE_TELLERS, tasks, tasks)}
 
 HOLES = {"ADDR": rb"0x[0-9a-f]+", "N": rb"-?\d+", "M": rb"\d+", "V": rb"\S+",
          "KEY": rb".*", "PATH": rb".*", "NAME": rb".*"}

@@ -17,6 +17,7 @@ import salvage_text
 import section_text
 import told
 import told_salvage
+import told_tasks
 from child_cores import Failure
 from made import Segment, core_file
 from row import row
@@ -246,7 +247,22 @@ class Tellers(unittest.TestCase):
                 self.assertTrue(all((it.status == 0) != bool(it.line) for it in found), teller)
                 for it in found if command == "pysalvage" else ():
                     if "-j" in it.words and it.out:
-                        salvage_text.tree_of(it.out, fuzz.frames_asked(it.words))
+                        salvage_text.tree_of(it.out, fuzz.frames_asked(it.words), fuzz.sections_asked(it.words))
+
+    def test_chains_of_tasks(self):
+        memory = told_tasks.Memory(Random(1), 5)
+        one, two = memory.heads[:2]
+        first, last = ({"address": it, "frame": None, "kind": "coroutine"} for it in ("first", "last"))
+        for second, end, members in ((told_tasks.Member(last, one), {"address": hex(one), "kind": "cycle"}, [last, first]),
+                                     (told_tasks.Member(last, 0, {"kind": "created"}), {"kind": "created"}, [last, first]),
+                                     (told_tasks.Member(None, 0, {"kind": "object"}), {"kind": "object"}, [first])):
+            memory.members.update({one: told_tasks.Member(first, two), two: second})
+            self.assertEqual(memory.chain(one), {"end": end, "members": members})
+        kinds = {it["chain"]["end"]["kind"] for seed in range(200) for it in (told_tasks.task(told_tasks.Memory(Random(seed), 7), 0)[1],)}
+        self.assertEqual(kinds, {"future", "yield", "created", "running", "finished", "not stored", "object", "unreadable", "cycle"})
+        waiter = {"state": "finished"}
+        self.assertEqual([told_tasks.condition(*it) for it in ((7, "cycle", None), (0, "created", waiter), (0, "cycle", waiter), (0, "cycle", {"state": None}))],
+                         ["done", "not started", "ready", "waiting"])
 
     def test_lines(self):
         table = bytes((0, 1, 10, 1, 8, 255, 4))
