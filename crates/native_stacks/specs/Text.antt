@@ -1,10 +1,12 @@
 -- The lines of a native stack: one that says whose thread it is, and those of the stack.
-use Rattle.std.specs.Prelude.{ℕ, ◌++◌, Bool, true, false, List, [], Option, Some, None, codes, decimal}
+use Rattle.std.specs.Prelude.{ℕ, ◌++◌, Bool, true, false, List, [], map, Option, Some, None, codes, decimal}
 use Rattle.std.specs.Fmt.{digits}
+use Rattle.std.specs.List.{concat}
 use Rattle.thread_registers.specs.declared.threads.Whose.{Whose}
 use Rattle.thread_registers.specs.declared.threads.Whose.TheVariants.{Python, Other, Untold}
 use Rattle.native_frames.specs.Text.{stack_text}
 use Rattle.native_frames.specs.Threads.{StackShown}
+use Rattle.native_stacks.specs.Stacks.{StacksShown}
 use Rattle.native_stacks.specs.Threads.{NativeShown}
 
 -- whose thread it is; Python's id is written as the lines of Python's stacks have it
@@ -28,3 +30,6 @@ thread_head t = head_text t.system_id t.whose ++ crash_text t.is_crashed
 abbrev pub thread_text : List (List ℕ) → (limit : ℕ) → NativeShown → List ℕ
 thread_text files limit t =
     thread_head t ++ (part_text files false limit t.stack ++ part_text files true limit t.guessed)
+
+abbrev pub stacks_text : (limit : ℕ) → StacksShown → List ℕ
+stacks_text limit s = concat (map (λ t. thread_text s.files limit t) s.threads)

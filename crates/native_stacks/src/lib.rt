@@ -13,5 +13,5 @@ mod tree;
 pub use first::notes_of_first;
 pub use reading::read_native_stacks;
 pub use stacks::{NativeStacks, NativeThread};
-pub use text::{push_thread, push_thread_head};
+pub use text::{push_native_stacks, push_thread, push_thread_head};
 pub use tree::native_value;

@@ -1,10 +1,11 @@
 //! The lines of native stacks.
-ghost use Rattle.std.specs.Prelude.{◌≡◌, ◌++◌, OnOk, string_bytes};
+ghost use Rattle.std.specs.Prelude.{◌≡◌, ◌++◌, OnOk, map, string_bytes};
 ghost use Rattle.native_frames.specs.Threads.{stack_shown_if};
-ghost use Rattle.native_stacks.specs.Text.{crash_text, head_text, part_text, thread_head, thread_text};
+ghost use Rattle.native_stacks.specs.Stacks.{stacks_shown};
+ghost use Rattle.native_stacks.specs.Text.{crash_text, head_text, part_text, stacks_text, thread_head, thread_text};
 ghost use Rattle.native_stacks.specs.Threads.{thread_shown};
 
-use crate::stacks::NativeThread;
+use crate::stacks::{NativeStacks, NativeThread};
 use elf64_core::Name;
 use native_frames::{ThreadStack, push_stack};
 use std::alloc::{AllocError, Global};
@@ -77,4 +78,36 @@ pub fn push_thread(
     push_thread_head(text, thread)?;
     push_part(alloc, text, files, false, limit, &thread.stack)?;
     push_part(alloc, text, files, true, limit, &thread.guessed)
+}
+
+/// The lines of threads, in order.
+fn push_threads(
+    alloc: Global,
+    text: &mut String,
+    files: &[Name],
+    limit: usize,
+    threads: &[NativeThread],
+) -> Result<(), AllocError>
+    ensures { OnOk result (string_bytes text.new ≡ string_bytes text.old
+        ++ stacks_text limit (record { files = files.now; threads = map thread_shown threads.now })) }
+{
+    for thread in threads {
+        push_thread(alloc, text, files, limit, thread)?;
+    }
+    Ok(())
+}
+
+/// Appends the lines of native stacks: for each thread whose it is, and the lines of its stack (`push_stack`), of which
+/// the first and the last `limit` frames are shown; and then those that follow by a guess, each with a mark. The one
+/// error is want of memory.
+pub fn push_native_stacks(
+    alloc: Global,
+    text: &mut String,
+    limit: usize,
+    stacks: &NativeStacks,
+) -> Result<(), AllocError>
+    ensures { OnOk result (string_bytes text.new ≡ string_bytes text.old
+        ++ stacks_text limit (stacks_shown stacks.now)) }
+{
+    push_threads(alloc, text, &stacks.files, limit, &stacks.threads)
 }
