@@ -84,12 +84,15 @@ abbrev pub lead_text : Option Mark → List ℕ
 lead_text (Some mark) = guess_line mark
 lead_text None = []
 
--- the line of a frame
-abbrev pub frame_text : List (List ℕ) → (is_guess : Bool) → NativeFrame → List ℕ
-frame_text files is_guess f =
+-- the line of a frame, but for its end
+abbrev pub frame_line : List (List ℕ) → (is_guess : Bool) → NativeFrame → List ℕ
+frame_line files is_guess f =
     codes "    0x" ++ (digits 16 false f.frame.pc ++ (codes " " ++ (place_text files f f.frame.place
     ++ (mark_text f.frame.is_signal (codes " <signal>") ++ (found_text f.frame.mark
-    ++ (mark_text is_guess (codes " <guess>") ++ codes "\n"))))))
+    ++ mark_text is_guess (codes " <guess>"))))))
+
+abbrev pub frame_text : List (List ℕ) → (is_guess : Bool) → NativeFrame → List ℕ
+frame_text files is_guess f = frame_line files is_guess f ++ codes "\n"
 
 abbrev pub frames_text : List (List ℕ) → (is_guess : Bool) → List NativeFrame → List ℕ
 frames_text files is_guess frames = concat (map (λ f. frame_text files is_guess f) frames)
@@ -148,3 +151,7 @@ stack_text files is_guess limit s =
     lead_text s.guess ++ (frames_text files is_guess (first_frames limit s.frames)
     ++ (more_text (frames_between limit s.frames)
     ++ (frames_text files is_guess (last_frames limit s.frames) ++ end_text files s.missing s.end)))
+
+-- how a stack ends whose frames stand elsewhere, and by what its newest frame was guessed
+abbrev pub behind_text : List (List ℕ) → StackShown → List ℕ
+behind_text files s = lead_text s.guess ++ end_text files s.missing s.end

@@ -23,6 +23,6 @@ pub use mapped::{Mapped, mapped_files};
 pub use naming::Kept;
 pub use stacks::{Function, NativeFrame, ThreadStack};
 pub use symbols::FileSymbols;
-pub use text::push_stack;
+pub use text::{push_frame_line, push_stack, push_stack_end};
 pub use thread::{StackParts, stack_parts};
 pub use tree::stack_value;

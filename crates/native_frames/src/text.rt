@@ -1,7 +1,7 @@
 //! The lines of a native stack.
 ghost use Rattle.std.specs.Prelude.{◌≡◌, ◌<◌, ◌++◌, OnOk, length, slice_get, string_bytes};
-ghost use Rattle.native_frames.specs.Text.{base_behind, base_name, end_text, file_text, first_frames, frame_text};
-ghost use Rattle.native_frames.specs.Text.{frames_text};
+ghost use Rattle.native_frames.specs.Text.{base_behind, base_name, behind_text, end_text, file_text, first_frames};
+ghost use Rattle.native_frames.specs.Text.{frame_line, frame_text, frames_text};
 ghost use Rattle.native_frames.specs.Text.{found_text, function_text, guess_line, guess_text, guess_word, last_frames};
 ghost use Rattle.native_frames.specs.Text.{lead_text, limit_text, mark_text, more_text};
 ghost use Rattle.native_frames.specs.Text.{no_file_text, place_text, refusal_text, stack_text, where_text};
@@ -174,6 +174,27 @@ fn push_lead(text: &mut String, guess: Option<Mark>) -> Result<(), AllocError>
     }
 }
 
+/// Appends the line of a frame, but for its end: its address, where it stands, whether a signal interrupted it, by what
+/// else than tables its caller was found, and whether it follows from a guess. `files` are the paths by which frames
+/// name files. The one error is want of memory.
+pub fn push_frame_line(
+    alloc: Global,
+    text: &mut String,
+    files: &[Name],
+    is_guess: bool,
+    frame: &NativeFrame,
+) -> Result<(), AllocError>
+    ensures { OnOk result (string_bytes text.new ≡ string_bytes text.old
+        ++ frame_line files.now is_guess frame.now) }
+{
+    let pc = frame.frame.pc;
+    write!(text, "    0x{pc:x} ")?;
+    push_place(alloc, text, files, frame)?;
+    push_mark(text, frame.frame.is_signal, " <signal>")?;
+    text.push_str(found_text(frame.frame.mark))?;
+    push_mark(text, is_guess, " <guess>")
+}
+
 /// The line of a frame.
 fn push_frame(
     alloc: Global,
@@ -185,12 +206,7 @@ fn push_frame(
     ensures { OnOk result (string_bytes text.new ≡ string_bytes text.old
         ++ frame_text files.now is_guess frame.now) }
 {
-    let pc = frame.frame.pc;
-    write!(text, "    0x{pc:x} ")?;
-    push_place(alloc, text, files, frame)?;
-    push_mark(text, frame.frame.is_signal, " <signal>")?;
-    text.push_str(found_text(frame.frame.mark))?;
-    push_mark(text, is_guess, " <guess>")?;
+    push_frame_line(alloc, text, files, is_guess, frame)?;
     text.push_str("\n")
 }
 
@@ -291,6 +307,21 @@ fn push_end(
             write!(text, "    ... {why}\n")
         }
     }
+}
+
+/// Appends the lines that say how a stack ends whose frames stand elsewhere: by what its newest frame was guessed, if it
+/// was, and how it ends, where it is not whole. The one error is want of memory.
+pub fn push_stack_end(
+    alloc: Global,
+    text: &mut String,
+    files: &[Name],
+    stack: &ThreadStack,
+) -> Result<(), AllocError>
+    ensures { OnOk result (string_bytes text.new ≡ string_bytes text.old
+        ++ behind_text files.now (stack_shown stack.now)) }
+{
+    push_lead(text, stack.guess)?;
+    push_end(alloc, text, files, stack.end, stack.missing)
 }
 
 /// How many frames stand between the first `limit` and the last.

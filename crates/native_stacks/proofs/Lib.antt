@@ -1,3 +1,4 @@
+pub mod Firsts
 pub mod Following
 pub mod Once
 pub mod Plain

@@ -1,3 +1,4 @@
+pub mod First
 pub mod Stacks
 pub mod Text
 pub mod Threads

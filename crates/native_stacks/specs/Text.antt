@@ -1,4 +1,4 @@
--- The lines of native stacks: of each thread a line that says whose it is, and those of its stack.
+-- The lines of a native stack: one that says whose thread it is, and those of the stack.
 use Rattle.std.specs.Prelude.{ℕ, ◌++◌, Bool, true, false, List, [], map, Option, Some, None, codes, decimal}
 use Rattle.std.specs.Fmt.{digits}
 use Rattle.std.specs.List.{concat}
@@ -24,10 +24,12 @@ abbrev pub part_text : List (List ℕ) → (is_guess : Bool) → (limit : ℕ) �
 part_text files is_guess limit (Some s) = stack_text files is_guess limit s
 part_text files is_guess limit None = []
 
+abbrev pub thread_head : NativeShown → List ℕ
+thread_head t = head_text t.system_id t.whose ++ crash_text t.is_crashed
+
 abbrev pub thread_text : List (List ℕ) → (limit : ℕ) → NativeShown → List ℕ
 thread_text files limit t =
-    head_text t.system_id t.whose ++ (crash_text t.is_crashed
-    ++ (part_text files false limit t.stack ++ part_text files true limit t.guessed))
+    thread_head t ++ (part_text files false limit t.stack ++ part_text files true limit t.guessed)
 
 abbrev pub stacks_text : (limit : ℕ) → StacksShown → List ℕ
 stacks_text limit s = concat (map (λ t. thread_text s.files limit t) s.threads)

@@ -4,12 +4,14 @@
 //! A stack is that of `core_unwind`: by tables alone. What follows a guess stands apart, and is no part of it.
 #![tactic(auto)]
 
+mod first;
 mod reading;
 mod stacks;
 mod text;
 mod tree;
 
+pub use first::notes_of_first;
 pub use reading::read_native_stacks;
 pub use stacks::{NativeStacks, NativeThread};
-pub use text::push_native_stacks;
+pub use text::{push_native_stacks, push_thread, push_thread_head};
 pub use tree::native_value;

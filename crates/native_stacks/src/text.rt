@@ -2,7 +2,7 @@
 ghost use Rattle.std.specs.Prelude.{◌≡◌, ◌++◌, OnOk, map, string_bytes};
 ghost use Rattle.native_frames.specs.Threads.{stack_shown_if};
 ghost use Rattle.native_stacks.specs.Stacks.{stacks_shown};
-ghost use Rattle.native_stacks.specs.Text.{crash_text, head_text, part_text, stacks_text, thread_text};
+ghost use Rattle.native_stacks.specs.Text.{crash_text, head_text, part_text, stacks_text, thread_head, thread_text};
 ghost use Rattle.native_stacks.specs.Threads.{thread_shown};
 
 use crate::stacks::{NativeStacks, NativeThread};
@@ -53,8 +53,19 @@ fn push_part(
     }
 }
 
-/// The lines of a thread.
-fn push_thread(
+/// Appends the line of a thread: whose it is, the id that the system gave it, and whether it got the signal. The one
+/// error is want of memory.
+pub fn push_thread_head(text: &mut String, thread: &NativeThread) -> Result<(), AllocError>
+    ensures { OnOk result (string_bytes text.new ≡ string_bytes text.old ++ thread_head (thread_shown thread.now)) }
+{
+    push_head(text, thread.system_id, thread.whose)?;
+    push_crash(text, thread.is_crashed)
+}
+
+/// Appends the lines of a thread's native stack: whose it is, and the lines of its stack (`push_stack`), of which the
+/// first and the last `limit` frames are shown; and then those that follow by a guess, each with a mark. `files` are
+/// the paths by which frames name files. The one error is want of memory.
+pub fn push_thread(
     alloc: Global,
     text: &mut String,
     files: &[Name],
@@ -64,8 +75,7 @@ fn push_thread(
     ensures { OnOk result (string_bytes text.new ≡ string_bytes text.old
         ++ thread_text files.now limit (thread_shown thread.now)) }
 {
-    push_head(text, thread.system_id, thread.whose)?;
-    push_crash(text, thread.is_crashed)?;
+    push_thread_head(text, thread)?;
     push_part(alloc, text, files, false, limit, &thread.stack)?;
     push_part(alloc, text, files, true, limit, &thread.guessed)
 }

@@ -18,7 +18,7 @@ use Rattle.paired_stacks.specs.declared.walked.Walked.{Walked}
 
 -- how often memory is read at most for a thread
 abbrev pub most_of_each : ℕ
-most_of_each = 4194306
+most_of_each = 4194338
 
 -- what both are in one, by the runs of the members that were met
 abbrev pub IsPairedBy : Option RunEnd → Layout → Memory → List Part → List Bool → Walked → Pairing → List Item → Type 0

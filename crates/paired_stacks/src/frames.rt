@@ -73,8 +73,8 @@ fn part_of(own: OwnCode, from: Option<u64>, native: &NativeFrame) -> Part
     }
 }
 
-/// The frames of a stack, if there is one.
-fn frames_of(stack: &Option<ThreadStack>) -> &[NativeFrame]
+/// The frames of a stack; none where there is no stack.
+pub fn frames_of(stack: &Option<ThreadStack>) -> &[NativeFrame]
     ensures { result.now ≡ frames_of (stack_shown_if stack.now) }
 {
     match stack {

@@ -17,6 +17,7 @@ mod tree;
 mod walked;
 
 pub use code::{CodeRange, OwnCode};
+pub use frames::frames_of;
 pub use laid::Pairing;
 pub use stack::{PairedStack, pair_stacks};
 pub use starts::starts_of;

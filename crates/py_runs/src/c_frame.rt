@@ -1,14 +1,11 @@
 //! The C frames of a thread of 3.11.
-ghost use Rattle.std.specs.Prelude.{◌≡◌, IfOk};
+ghost use Rattle.std.specs.Prelude.{◌≡◌, ◌*◌, IfOk};
 ghost use Rattle.process_memory.specs.Seen.{Reading};
 ghost use Rattle.py_runs.specs.Members.{c_frame_at, c_frame_by, c_frames_from};
 
 use crate::found::word_known;
 use process_memory::ProcessMemory;
 use std::alloc::{AllocError, Global};
-
-/// How many are met at most.
-const MOST_C_FRAMES: u64 = 1_048_576;
 
 /// A C frame: `_PyCFrame` of Include/cpython/pystate.h.
 #[derive(Clone, Copy, Debug, PartialEq, Eq)]
@@ -50,22 +47,23 @@ fn c_frame_by(at: u64, named: Option<u64>, back: Option<u64>) -> Option<(CFrame,
     }
 }
 
-/// The C frames from the one at an address on. At most two reads of each.
+/// At most so many C frames, from the one at an address on. At most two reads of each.
 pub(crate) fn read_c_frames<P: ProcessMemory>(
     alloc: Global,
     process: &mut P,
     current: u32,
     previous: u32,
+    most: u128,
     first: u64,
 ) -> Result<Vec<CFrame>, AllocError>
-    ensures { Reading 2097152 (P.seen process.old) (P.seen process.new)
-        (λ m. IfOk result (λ frames. frames.items ≡ c_frames_from current previous m 1048576 first)) }
+    ensures { Reading (2 * most) (P.seen process.old) (P.seen process.new)
+        (λ m. IfOk result (λ frames. frames.items ≡ c_frames_from current previous m most first)) }
 {
     let mut frames = Vec::new(alloc);
     let mut met = 0;
     let mut at = first;
     while at != 0 {
-        if met == MOST_C_FRAMES {
+        if met == most {
             return Ok(frames);
         }
         let (frame, back) = match read_c_frame(process, current, previous, at)? {

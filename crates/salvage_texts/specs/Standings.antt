@@ -64,6 +64,11 @@ why_text _ = codes "a name that is no text"
 abbrev pub member_line : ObjectError → List ℕ
 member_line why = codes "    ? " ++ (why_text why ++ codes "\n")
 
+-- the line of what stands for a member
+abbrev pub standing_line : Standing → List ℕ
+standing_line (standing.Frame frame fault) = frame_line frame
+standing_line (standing.Member address why) = member_line why
+
 -- the lines of what stands for a member
 abbrev pub standing_text : ShownValues → Standing → List ℕ
 standing_text values (standing.Frame frame fault) =

@@ -15,3 +15,4 @@ mod thread;
 
 pub use escape::push_escaped;
 pub use salvaged::salvaged_text;
+pub use standing::push_standing_line;

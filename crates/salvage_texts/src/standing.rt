@@ -3,7 +3,7 @@ ghost use Rattle.std.specs.Prelude.{◌≡◌, ◌++◌, OnOk, map, string_bytes
 ghost use Rattle.std.specs.List.{concat};
 ghost use Rattle.repr_json.specs.Shown.{text_in};
 ghost use Rattle.salvage_texts.specs.Standings.{fault_text, frame_line, kept_text, local_text, locals_fault};
-ghost use Rattle.salvage_texts.specs.Standings.{locals_text, member_line, shown_locals, standing_text};
+ghost use Rattle.salvage_texts.specs.Standings.{locals_text, member_line, shown_locals, standing_line, standing_text};
 ghost use Rattle.salvage_texts.specs.Standings.{standings_text, value_text, why_text};
 
 use crate::ends::push_missing;
@@ -141,6 +141,21 @@ fn push_member(text: &mut String, why: &ObjectError) -> Result<(), AllocError>
     text.push_str("    ? ")?;
     push_why(text, why)?;
     text.push_str("\n")
+}
+
+/// Appends the line of what stands for a member of a chain of frames: a frame's function, file and line, or why the
+/// member has no names. The one error is want of memory.
+pub fn push_standing_line(
+    alloc: Global,
+    text: &mut String,
+    standing: &Standing,
+) -> Result<(), AllocError>
+    ensures { OnOk result (string_bytes text.new ≡ string_bytes text.old ++ standing_line standing.now) }
+{
+    match standing {
+        Standing::Frame { frame, .. } => push_frame_line(alloc, text, frame),
+        Standing::Member { why, .. } => push_member(text, why),
+    }
 }
 
 /// The lines of what stands for a member.

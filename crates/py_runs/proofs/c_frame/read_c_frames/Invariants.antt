@@ -5,11 +5,11 @@ use Rattle.py_runs.proofs.c_frame.read_c_frames.Given as goal
 
 abbrev pub invariant-loop-at : goal.invariant-loop-at
 invariant-loop-at g l = record {
-  within : l.met ≤ 1048576;
+  within : l.met ≤ l.most;
   reading : Reading (2 * l.met) (g.P.ProcessMemory.seen l.initial.process) (g.P.ProcessMemory.seen l.process)
-      (λ m. c_frames_from l.current l.previous m 1048576 l.first
-      ≡ l.frames.items ++ c_frames_from l.current l.previous m (1048576 - l.met) l.at);
+      (λ m. c_frames_from l.current l.previous m l.most l.first
+      ≡ l.frames.items ++ c_frames_from l.current l.previous m (l.most - l.met) l.at);
 }
 
 abbrev pub decreases-loop-at : goal.decreases-loop-at
-decreases-loop-at g l = 1048576 - l.met
+decreases-loop-at g l = l.most - l.met

@@ -26,7 +26,7 @@ returns g c = reading_gives _ _
     ≡ spans_by c.args.layout.now c.args.end m c.args.count (current_of m c.args.layout.now.cframe c.args.named))
     c.in_ok-first.ensures c.in_ok-spans.ensures
     (λ m a b. b ∙ ap (λ f. spans_by c.args.layout.now c.args.end m c.args.count f) a)) c.bordered.ensures
-    (λ m a b. said c.bordered.result (bordered c.args.end m c.args.named c.deref.result.now)
+    (λ m a b. said c.bordered.result (bordered c.args.end m c.args.count c.args.named c.deref.result.now)
     (runs_by c.args.layout.now c.args.end m c.args.count (Some c.args.named))
-    (ap (λ rs. bordered c.args.end m c.args.named rs) (c.deref.ensures.value ∙ a)) b))
+    (ap (λ rs. bordered c.args.end m c.args.count c.args.named rs) (c.deref.ensures.value ∙ a)) b))
     (omega arith) (λ m h. h)
