@@ -47,7 +47,7 @@ class Check:
 CHECKS = (
     Check("messages"),
     Check("quotes"),
-    Check("definitions"),
+    Check("definitions", ("--strict",)),
     Check("../layouts/records_table"),
     Check("links"),
     Check("typed"),

@@ -90,6 +90,6 @@ def tree_of(report: Report, threads: List[Tree], most: Optional[int] = None) -> 
     return {
         "heap": None, "interpreters": [interpreter], "layout_check": None, "missing": None, "more": None, "names": None, "native": None,
         "process": process, "registers": None, "search_ended": None, "signal": report.signal,
-        "signal_info": None, "stacks": None, "tasks": None, "exceptions": None, "version": report.version or None, "version_by_names": None,
+        "signal_info": None, "stacks": None, "tasks": None, "exceptions": None, "version": report.version or None, "version_by_names": False,
         "waits": None,
     }

@@ -25,6 +25,9 @@ ENDS = {
 }
 """How a stack ends, by the kind of its end; nothing of a whole one."""
 
+NOWHERE = "{at} is in no file"
+"""How one ends at an address that was mapped from no file."""
+
 
 def number_in(value: Optional[str]) -> Optional[int]:
     """An address, where there is one."""
@@ -40,7 +43,8 @@ def frame_of(tree: Tree, is_guess: bool, names: Dict[str, str]) -> NativeFrame:
 
 def end_of(tree: Tree) -> str:
     """How a stack ends; nothing of a whole one."""
-    line = ENDS.get(tree["kind"], "").format(at=tree["at"])
+    line = NOWHERE if tree["kind"] == "no file" and not tree["file"] else ENDS.get(tree["kind"], "")
+    line = line.format(at=tree["at"])
     return f"{line} ({os.path.basename(tree['file'])})" if line and tree["file"] else line
 
 
