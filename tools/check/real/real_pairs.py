@@ -8,17 +8,20 @@ of a sort, twenty times one below the other), in a `__del__` that runs as a Pyth
 overflows between them, and in a sub-interpreter that another thread made. In the one stack of the thread that died each C function of
 the child stands above the Python function that called it, and below the one that it called; each frame stands once and in
 its order; up to 3.10 both are paired by their order, or not at all where a sub-interpreter's calls are among them, and from 3.11 on by
-addresses. The status is 0 exactly where nothing that was tried failed.
+addresses. Where gdb is there and the build's debug information has it, the variable of each frame of the evaluation loop that names the
+Python frame it runs is asked too: it is the newest of the Python frames that stand above that native frame. The status is 0 exactly
+where nothing that was tried failed.
 """
 
 import argparse
 import json
+import os
 import shutil
 import subprocess
 import sys
 import tempfile
 from pathlib import Path
-from typing import Callable, List, Sequence, Tuple
+from typing import Callable, List, Optional, Sequence, Tuple
 
 from rooms import ROOT  # (first: it makes the other rooms known)
 
@@ -59,19 +62,30 @@ def told(program: Path, core: Path, layouts: Path) -> Tree:
     return json.loads(run.out)
 
 
-def own_names(tree: Tree) -> Tuple[str, List[str]]:
-    """By what both are paired in the thread that got the signal, and the child's functions in its stack."""
+def stack_that_died(tree: Tree) -> Tuple[Tree, Tree]:
+    """The native stack of the thread that got the signal, and the one stack of it."""
     at = next(at for at, it in enumerate(tree["native"]) if it["crashed"])
     native, one = tree["native"][at], tree["stacks"][at]
     if one is None:
         raise Failure("the thread that died is none of Python's")
+    return native, one
+
+
+def parts_of(tree: Tree) -> Tuple[List[Tree], List[Tree], List[Tree]]:
+    """The native frames of the thread that got the signal, its Python frames, and the items of the one stack."""
+    native, one = stack_that_died(tree)
     thread = next(it for each in tree["interpreters"] for it in each["threads"] if it["address"] == one["thread"])
     frames = [*thread["frames"]["first"], *thread["frames"]["last"]]
     natives = [frame for part in (native["stack"], native["guessed"]) if part for frame in (*part["frames"], *part["last"])]
+    return natives, frames, [] if one["pairing"] == "apart" else one["items"]
+
+
+def own_names(tree: Tree) -> Tuple[str, List[str]]:
+    """By what both are paired in the thread that got the signal, and the child's functions in its stack."""
+    one = stack_that_died(tree)[1]
+    natives, frames, items = parts_of(tree)
     names: List[str] = []
-    if one["pairing"] == "apart":
-        return "apart", names
-    for it in one["items"]:
+    for it in items:
         if it["kind"] not in ("python", "native"):
             raise Failure(f"the mark {it['kind']!r} by {one['pairing']}")
         name = frames[it["frame"]]["name"] if it["kind"] == "python" else natives[it["frame"]]["function"]
@@ -82,6 +96,86 @@ def own_names(tree: Tree) -> Tuple[str, List[str]]:
     return one["pairing"], names
 
 
+EVAL = "_PyEval_EvalFrameDefault"
+"""The evaluation loop, from 3.6 on."""
+
+SHIM = "<interpreter trampoline>"
+"""The function of a frame of 3.12 that isn't shown: where the loop stands at it, it runs no Python frame."""
+
+IN_GDB = """
+import gdb, json
+
+def name_of(frame):
+    for variable in ('frame', 'f'):
+        try:
+            value = frame.read_var(variable)
+        except ValueError:
+            continue
+        if value.is_optimized_out:
+            return None
+        fields = [it.name for it in value.dereference().type.fields()]
+        code = value['f_code' if 'f_code' in fields else 'f_executable'].cast(gdb.lookup_type('PyCodeObject').pointer())
+        text = code['co_name'].cast(gdb.lookup_type('PyASCIIObject').pointer()) + 1
+        return text.cast(gdb.lookup_type('char').pointer()).string()
+    return None
+
+frame, found = gdb.newest_frame(), []
+while frame is not None:
+    if (frame.name() or '').split('.')[0] == '%s':
+        try:
+            found.append([frame.pc(), name_of(frame)])
+        except (gdb.error, UnicodeDecodeError):
+            found.append([frame.pc(), None])
+    frame = frame.older()
+print('FOUND ' + json.dumps(found))
+""" % EVAL
+"""What gdb tells: each frame of the evaluation loop in the thread that died, the newest first, with the function that it runs, if a
+variable tells that."""
+
+
+def run_by_gdb(core: Path, python: str, room: Path) -> List[Tuple[int, Optional[str]]]:
+    """The frames of the evaluation loop, by gdb: where each stands, and which function it runs."""
+    script = room / "pairs_gdb.py"
+    script.write_text(IN_GDB, encoding="utf-8")
+    words = ["gdb", "-batch", "-nx", "-q", os.path.realpath(python), str(core), "-x", str(script)]
+    done = subprocess.run(words, stdout=subprocess.PIPE, stderr=subprocess.DEVNULL, check=False, text=True)
+    lines = [it for it in done.stdout.splitlines() if it.startswith("FOUND ")]
+    if len(lines) != 1:
+        raise Failure("gdb tells nothing of the evaluation loop")
+    return [(at, name) for at, name in json.loads(lines[0][len("FOUND "):])]
+
+
+def run_by_pairs(tree: Tree) -> List[Tuple[int, Optional[str]]]:
+    """The same by the one stack: the newest Python frame above each frame of the evaluation loop; none where there is none."""
+    natives, frames, items = parts_of(tree)
+    found: List[Tuple[int, Optional[str]]] = []
+    newest = None
+    for it in items:
+        if it["kind"] == "python":
+            newest = newest or frames[it["frame"]]["name"]
+            continue
+        native = natives[it["frame"]]
+        if native["function"] == EVAL:
+            found.append((int(native["pc"], 16), newest))
+        newest = None
+    return found
+
+
+def compared_with_gdb(tree: Tree, core: Path, python: str, room: Path) -> int:
+    """How many frames of the evaluation loop run the function that gdb's variable names."""
+    of_gdb, of_pairs = run_by_gdb(core, python, room), run_by_pairs(tree)
+    if len(of_gdb) != len(of_pairs):
+        raise Failure(f"gdb has {len(of_gdb)} frames of the evaluation loop, and the one stack {len(of_pairs)}")
+    told = 0
+    for (at, name), (place, newest) in zip(of_gdb, of_pairs):
+        if at - place not in (0, 1):
+            raise Failure(f"a frame of the evaluation loop at {place:#x}, and by gdb at {at:#x}")
+        if name is not None and newest != (None if name == SHIM else name):
+            raise Failure(f"the evaluation loop at {at:#x} runs {newest}, and by gdb {name}")
+        told += name is not None
+    return told
+
+
 def check_overflow(names: Sequence[str]) -> None:
     """Fails where a function doesn't stand below what it called: each Python function but the newest called C, and so may that one."""
     depth = names.count("overflows")
@@ -90,8 +184,8 @@ def check_overflow(names: Sequence[str]) -> None:
         raise Failure(f"{depth} functions: {names[:6]} .. {names[-6:]}")
 
 
-def tried_way(program: Path, python: str, names: str, room: Path, layouts: Path, library: Path, way: str, wanted: str) -> int:
-    """How many frames of the child stand where they are to, where a process dies in one way."""
+def tried_way(program: Path, python: str, names: str, room: Path, layouts: Path, library: Path, way: str, wanted: str) -> Tuple[int, int]:
+    """How many frames of the child stand where they are to, where a process dies in one way, and how many gdb's variables confirm."""
     room.mkdir()
     child = ended([python, str(HERE / "pairs_child.py"), way, str(library)], room)
     if child.status >= 0:
@@ -110,8 +204,9 @@ def tried_way(program: Path, python: str, names: str, room: Path, layouts: Path,
         check_overflow(own)
     elif own != WANTED[way]:
         raise Failure(f"{way}: {own}")
+    confirmed = compared_with_gdb(tree, core, python, room) if way in WANTED and shutil.which("gdb") else 0
     core.unlink()
-    return len(own)
+    return len(own), confirmed
 
 
 def tried_with(program: Path, library: Path) -> Callable[[str], str]:
@@ -127,7 +222,9 @@ def tried_with(program: Path, library: Path) -> Callable[[str], str]:
             layouts = ROOT / "layouts" / f"cpython-{build.machine}.toml"
             ways = [it for it in WAYS if it != "enters" or build.version >= (3, 8)]
             counts = [tried_way(program, python, names, Path(name) / way, layouts, library, way, wanted) for way in ways]
-        return f"{build.dotted}: {sum(counts)} frames where they are to stand, in {len(ways)} ways, by {wanted}"
+        stand, confirmed = (sum(it) for it in zip(*counts))
+        by_gdb = f"; {confirmed} of the evaluation loop as gdb's variables say" if confirmed else "; gdb's variables tell none"
+        return f"{build.dotted}: {stand} frames where they are to stand, in {len(ways)} ways, by {wanted}{by_gdb}"
 
     return tried
 
