@@ -13,7 +13,7 @@ from pathlib import Path
 from typing import Dict, List
 
 from layout_plan import Field
-from records_plan import FIRST, LAST, RECORDS, THREE, VERSIONS, Record
+from records_plan import FIRST, LAST, RECORDS, THREE, Record
 
 PAGE = Path(__file__).resolve().parent.parent.parent / "docs" / "LAYOUTS.md"
 HEAD = "<!-- tools/layouts/records_table.py --write -->\n\n| group | CPython's struct | versions | keys |\n|---|---|---|---|\n"
