@@ -52,6 +52,23 @@ def enters(number):
     interpreters.run_string(number, "def inner():\n    import os\n    os.abort()\ninner()")
 
 
+def parks():
+    """Goes back to its parent from below C, and stays there."""
+    main = greenlet.getcurrent().parent
+    library.call_back(CALLBACK(lambda _: main.switch() or 0), 64)
+
+
+def runs():
+    """Dies below C, in a greenlet of its own."""
+    library.call_back(CALLBACK(lambda _: library.crash(64)), 64)
+
+
+def switches():
+    """Starts a greenlet that parks, and one that dies."""
+    for function in (parks, runs):
+        greenlet.greenlet(function).switch()
+
+
 def ends():
     """Dies."""
     if way == "recursion":
@@ -60,6 +77,8 @@ def ends():
         overflows(0)
     elif way == "enters":
         enters(made)
+    elif way == "greenlets":
+        switches()
     elif way == "leaves":
         library.call_back(CALLBACK(leaves), 64)
     else:
@@ -70,6 +89,8 @@ def ends():
 with open("/proc/self/coredump_filter", "w") as file:
     file.write("0x3f")
 sys.setrecursionlimit(100000)
+if way == "greenlets":
+    import greenlet
 if way == "enters":
     if sys.version_info < (3, 13):
         import _xxsubinterpreters as interpreters

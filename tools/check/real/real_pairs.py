@@ -5,10 +5,10 @@
 
 For each Python of 3.6 on that is installed: processes die in a C function below Python functions that C called (by ctypes, in a key
 of a sort, twenty times one below the other), in a `__del__` that runs as a Python function returns to C, where the C stack
-overflows between them, and in a sub-interpreter that another thread made. In the one stack of the thread that died each C function of
-the child stands above the Python function that called it, and below the one that it called; each frame stands once and in
-its order; up to 3.10 both are paired by their order, or not at all where a sub-interpreter's calls are among them, and from 3.11 on by
-addresses. Where gdb is there and the build's debug information has it, the variable of each frame of the evaluation loop that names the
+overflows between them, in a sub-interpreter that another thread made, and, where the module `greenlet` is there, in a greenlet beside a
+parked one. In the one stack of the thread that died each C function of the child stands above the Python function that called it, and
+below the one that it called; each frame stands once and in its order; up to 3.10 both are paired by their order, or not at all where a
+sub-interpreter's calls are among them, and from 3.11 on by addresses. Where gdb is there and the build's debug information has it, the variable of each frame of the evaluation loop that names the
 Python frame it runs is asked too: it is the newest of the Python frames that stand above that native frame. The status is 0 exactly
 where nothing that was tried failed.
 """
@@ -38,20 +38,22 @@ HERE = Path(__file__).parent
 
 RECORDS = ROOT / "layouts" / "records-x86_64.toml"
 
-WAYS = ("recursion", "overflow", "leaves", "sort", "enters")
+WAYS = ("recursion", "overflow", "leaves", "sort", "enters", "greenlets")
 
 NATIVE = ("crash", "call_back")
 """The child's C functions."""
 
-PYTHON = ("recurses", "overflows", "leaves", "within_sort", "enters", "inner", "__del__", "ends", "<lambda>")
+PYTHON = ("recurses", "overflows", "leaves", "within_sort", "enters", "inner", "__del__", "ends", "<lambda>", "parks", "runs", "switches")
 """Its Python functions."""
 
 WANTED = {
     "recursion": ["crash", *(["recurses", "<lambda>", "call_back"] * 20), "recurses", "ends"],
     "leaves": ["crash", "__del__", "call_back", "ends"],
     "sort": ["crash", "<lambda>", "within_sort", "call_back", "ends"],
+    "greenlets": ["crash", "<lambda>", "call_back", "runs"],
 }
-"""What stands in the stack of the thread that died, of the child's functions, the newest first."""
+"""What stands in the stack of the thread that died, of the child's functions, the newest first. Of greenlets the running one alone has
+Python frames there: the loop of another one stands in the C stack, and runs none."""
 
 
 def told(program: Path, core: Path, layouts: Path) -> Tree:
@@ -209,6 +211,11 @@ def tried_way(program: Path, python: str, names: str, room: Path, layouts: Path,
     return len(own), confirmed
 
 
+def has_greenlets(python: str) -> bool:
+    """Whether a Python has the module `greenlet`."""
+    return subprocess.run([python, "-c", "import greenlet"], stderr=subprocess.DEVNULL, check=False).returncode == 0
+
+
 def tried_with(program: Path, library: Path) -> Callable[[str], str]:
     """What tries one Python."""
 
@@ -220,7 +227,7 @@ def tried_with(program: Path, library: Path) -> Callable[[str], str]:
         wanted = "order" if build.version < (3, 11) else "address"
         with tempfile.TemporaryDirectory(prefix="real-pairs-") as name:
             layouts = ROOT / "layouts" / f"cpython-{build.machine}.toml"
-            ways = [it for it in WAYS if it != "enters" or build.version >= (3, 8)]
+            ways = [it for it in WAYS if (it != "enters" or build.version >= (3, 8)) and (it != "greenlets" or has_greenlets(python))]
             counts = [tried_way(program, python, names, Path(name) / way, layouts, library, way, wanted) for way in ways]
         stand, confirmed = (sum(it) for it in zip(*counts))
         by_gdb = f"; {confirmed} of the evaluation loop as gdb's variables say" if confirmed else "; gdb's variables tell none"
