@@ -5,8 +5,8 @@
 
 For each Python of 3.8 to 3.13 that is installed: a process of four threads, whose core is cut at 30, 60, 90 and 98.9 % of its bytes.
 Each frame that is shown is one of the process's own, in its place of the stack of the thread of that id, and each thread that is
-shown is one of its; what can't be prepared, or has no interpreter, has its line. With --write the table in docs/USAGE.md has what
-came of each. The status is 0 exactly where nothing that was tried failed.
+shown is one of its; what can't be prepared, or has no interpreter, has its line. With --write the table in tools/check/README.md
+has what came of each. The status is 0 exactly where nothing that was tried failed.
 """
 
 import argparse
@@ -31,7 +31,7 @@ from real_salvage import frames_of, is_front, left_by, threads
 PERMILLE = (300, 600, 900, 989)
 """Of a core that is cut, how many thousandths of its bytes stay."""
 
-PAGE = ROOT / "docs" / "USAGE.md"
+PAGE = ROOT / "tools" / "check" / "README.md"
 
 SOURCE = """
 import json, os, sys, threading
@@ -141,7 +141,7 @@ def main() -> int:
     parser = argparse.ArgumentParser(description=__doc__.splitlines()[0])
     parser.add_argument("python", nargs="*", help="the interpreters (default: those that are found)")
     parser.add_argument("--salvage", default=str(ROOT / "crates" / "pysalvage" / "out" / "pysalvage"), help="the built `pysalvage`")
-    parser.add_argument("--write", action="store_true", help="write the table into docs/USAGE.md")
+    parser.add_argument("--write", action="store_true", help="write the table into tools/check/README.md")
     words = parser.parse_args()
     salvage = Path(words.salvage).resolve()
     if not salvage.is_file():
