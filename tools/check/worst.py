@@ -269,7 +269,7 @@ def heaps() -> Iterator[Case]:
 
 
 def apart() -> Iterator[Case]:
-    """Those that have a bound of their own, which is told in docs/MEASURES.md."""
+    """Those that have a bound of their own."""
     yield Case("4096 threads of the same 4096 frames, whose ends are shown", SALVAGE,
                lambda: with_bss(2, interpreter("a.py", "f", 4096, 4096)), "0",
                memory=100, seconds=TEN)
