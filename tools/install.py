@@ -41,7 +41,7 @@ LAYOUT_TOOLS = ("derive_layout", "layout_from_core", "layout_plan", "layout_sour
                 "join_layouts", "carry_layouts", "find_pythons", "probe_*")
 """The modules of the tools that derive and join layouts and records."""
 
-TOOLS = ("dump_core.py", "core_handle.py", "core_fleet.py", "slim_core.py", "native_addresses.py", "pystacks_tool/**/*.py", *(f"layouts/{it}.py" for it in LAYOUT_TOOLS))
+TOOLS = ("dump_core.py", "core_handle.py", "core_fleet.py", "slim_core.py", "native_addresses.py", "pystacks_tool/**/*.py", "layouts/README.md", *(f"layouts/{it}.py" for it in LAYOUT_TOOLS))
 
 PACKAGE = "pystacks_tool"
 """The package of the tool, below tools/."""

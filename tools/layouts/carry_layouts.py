@@ -6,7 +6,7 @@ headers of the same build give the same numbers for both machines.
 
 For each version from 3.7 on that has no layout of that machine, the Python from which that of x86-64 was read has to be
 installed. Its headers are compiled twice, by this machine's compiler and by `--cc`, whose programs have to run here
-(docs/LAYOUTS.md shows one). Where a number differs, or nothing is compared, nothing is written, and a line says why.
+(README.md shows one). Where a number differs, or nothing is compared, nothing is written, and a line says why.
 """
 
 import argparse

@@ -17,6 +17,9 @@ from records_plan import FIRST, LAST, RECORDS, THREE, Record
 
 PAGE = Path(__file__).resolve().parent.parent.parent / "docs" / "LAYOUTS.md"
 HEAD = "<!-- tools/layouts/records_table.py --write -->\n\n| group | CPython's struct | versions | keys |\n|---|---|---|---|\n"
+SPELLED = {"dequeobject.leftblock*": "block"}
+"""Structs that the plan can only reach by a field."""
+
 TABLE = re.compile(re.escape(HEAD) + r"(?:\|.*\n)*")
 
 
@@ -70,7 +73,7 @@ def rows() -> str:
     found = []
     for name, records in groups.items():
         structs = dict.fromkeys(it.struct.replace("struct ", "") for it in records)
-        struct = ", ".join(f"`{it}`" for it in structs if it) or "none"
+        struct = ", ".join(f"`{SPELLED.get(it, it)}`" for it in structs if it) or "none"
         found.append(f"| `{name}` | {struct} | {versions(records)} | {keys(records)} |\n")
     return "".join(found)
 

@@ -3,7 +3,7 @@
 
     tools/check/real/arm_core.py ROOT --program crates/pystacks/out/pystacks
 
-ROOT is a folder of unpacked arm64 packages with a Python 3 (docs/LAYOUTS.md has their names); where none is given the
+ROOT is a folder of unpacked arm64 packages with a Python 3 (tools/layouts/README.md has their names); where none is given the
 environment's PYSTACKS_ARM_ROOT names it. The emulator qemu-aarch64 runs real_core_child.py by that Python and leaves
 its cores. These have no file table, so it is written from the maps that the child told. Then each core is walked and
 reported, by the stored layout of the Python's version, and compared like those of real_core.py; where the program

@@ -9,8 +9,8 @@ overflows between them, in a sub-interpreter that another thread made, and, wher
 parked one. In the one stack of the thread that died each C function of the child stands above the Python function that called it, and
 below the one that it called; each frame stands once and in its order; up to 3.10 both are paired by their order, or not at all where a
 sub-interpreter's calls are among them, and from 3.11 on by addresses. Where gdb is there and the build's debug information has it, the variable of each frame of the evaluation loop that names the
-Python frame it runs is asked too: it is the newest of the Python frames that stand above that native frame. The status is 0 exactly
-where nothing that was tried failed.
+Python frame it runs is asked too: it is the newest of the Python frames that stand above that native frame. From 3.12 on some have to be
+told. The status is 0 exactly where nothing that was tried failed.
 """
 
 import argparse
@@ -157,7 +157,7 @@ def run_by_pairs(tree: Tree) -> List[Tuple[int, Optional[str]]]:
             newest = newest or frames[it["frame"]]["name"]
             continue
         native = natives[it["frame"]]
-        if native["function"] == EVAL:
+        if (native["function"] or "").partition(".")[0] == EVAL:
             found.append((int(native["pc"], 16), newest))
         newest = None
     return found
@@ -211,6 +211,12 @@ def tried_way(program: Path, python: str, names: str, room: Path, layouts: Path,
     return len(own), confirmed
 
 
+def has_variables(python: str) -> bool:
+    """Whether a Python's own file has debug information."""
+    told = subprocess.run(["readelf", "-S", os.path.realpath(python)], stdout=subprocess.PIPE, stderr=subprocess.DEVNULL, check=False)
+    return b".debug_info" in told.stdout
+
+
 def has_greenlets(python: str) -> bool:
     """Whether a Python has the module `greenlet`."""
     return subprocess.run([python, "-c", "import greenlet"], stderr=subprocess.DEVNULL, check=False).returncode == 0
@@ -230,7 +236,10 @@ def tried_with(program: Path, library: Path) -> Callable[[str], str]:
             ways = [it for it in WAYS if (it != "enters" or build.version >= (3, 8)) and (it != "greenlets" or has_greenlets(python))]
             counts = [tried_way(program, python, names, Path(name) / way, layouts, library, way, wanted) for way in ways]
         stand, confirmed = (sum(it) for it in zip(*counts))
-        by_gdb = f"; {confirmed} of the evaluation loop as gdb's variables say" if confirmed else "; gdb's variables tell none"
+        if not confirmed and build.version >= (3, 12) and shutil.which("gdb") and has_variables(python):
+            raise Failure("gdb's variables confirm no frame of the evaluation loop")
+        none = "the compiler left gdb no variable" if shutil.which("gdb") else "there is no gdb"
+        by_gdb = f"; {confirmed} of the evaluation loop as gdb's variables say" if confirmed else f"; {none}"
         return f"{build.dotted}: {stand} frames where they are to stand, in {len(ways)} ways, by {wanted}{by_gdb}"
 
     return tried
