@@ -4,6 +4,7 @@ coroutine and the one that this awaits, and a future."""
 import struct
 from typing import Dict, Sequence, Tuple
 
+from made import EXAMPLE
 from small_core import HEAP, heap
 
 RECORDS = b"""\
@@ -39,8 +40,8 @@ LOOP, STATE, WAITER, CORO, NAME, CANCEL = 16, 80, 144, 152, 160, 176
 class Made:
     """These objects, and where each of them stands, so that some of their words can be changed."""
 
-    def __init__(self, **other: int) -> None:
-        self.objects = heap()
+    def __init__(self, layout: str = EXAMPLE, **other: int) -> None:
+        self.objects = heap(layout)
         self.types: Dict[str, int] = {}
         self.types["type"] = self.type_of("type", 31)
         for name, flag in (("str", 28), ("dict", 29), ("int", 24), ("NoneType", 0), ("Loop", 0), ("T", 0)):
@@ -87,12 +88,18 @@ class Made:
         self.objects.word(at + 16, self.dict_of(entries))
         return at
 
-    def coroutine(self, name: str, line: int, awaited: int) -> Tuple[int, int]:
-        """A suspended coroutine that awaits something, and its frame."""
+    def code(self, name: str, line: int) -> int:
+        """The code of a coroutine, whose instruction behind the first one is that of one that awaits."""
         objects = self.objects
         code = objects.write(objects.free(), bytes(96))
         objects.record("code", code, filename=HEAP + 0x180, name=objects.text(name), first_line=line, table=objects.table(b""))
         objects.word(code + 64, objects.table(bytes((0, 0, YIELD_FROM, 0))))
+        return code
+
+    def coroutine(self, name: str, line: int, awaited: int, code: int = 0) -> Tuple[int, int]:
+        """A suspended coroutine that awaits something, and its frame; maybe of a code that is there."""
+        objects = self.objects
+        code = code or self.code(name, line)
         frame = objects.write(objects.free(), bytes(96))
         objects.record("frame", frame, code=code)
         objects.word(frame + 40, frame + 80)
