@@ -26,6 +26,7 @@ from made import EXAMPLE, Objects, Segment, Symbol, core_file, image_file, layou
 from measure import Shape, core, machine, row
 from small_core import BSS, FRAME, GOOD, HEAP, IMAGE, THREAD, bss, files_of, heap, mapped, of_locals, small
 from made_heaps import of_long_dicts, of_members, of_woven_members
+from made_tasks import of_ring, of_tasks
 from rows_merge import EXTENSION, WITH_EXTENSION
 from rows_native import CODE, PAGE, RESUMES, STACK, WORDS as NATIVE, files_over, status
 from rows_salvage import named
@@ -42,6 +43,8 @@ SALVAGE = f"core --layouts layouts {IMAGE}"
 """The words of `pysalvage`."""
 
 HEAPS = f"{SALVAGE} --records records --heap"
+
+TASKS = f"{SALVAGE} --records records --tasks"
 
 Files = Dict[str, bytes]
 
@@ -268,6 +271,16 @@ def heaps() -> Iterator[Case]:
     yield texts("2048 classes that have one dict of 4096 names of 4095 characters", lambda: of_long_dicts(2048, 4095), seconds=TEN)
 
 
+def of_asyncio() -> Iterator[Case]:
+    """Those of `pysalvage --tasks`."""
+    tasks = lambda: of_tasks(20_000)
+    yield Case("`--tasks`: 20,000 tasks, each of a chain of three coroutines", TASKS, tasks, "0", seconds=0.4)
+    yield Case("`--tasks -j`: the same", f"{TASKS} -j", tasks, "0")
+    for count, members in ((64, 16_384), (65_536, 16)):
+        yield Case(f"`--tasks`: {count:,} tasks over one ring of {members:,} coroutines", TASKS, lambda count=count, members=members: of_ring(count, members),
+                   "0", memory=400, seconds=TEN)
+
+
 def apart() -> Iterator[Case]:
     """Those that have a bound of their own."""
     yield Case("4096 threads of the same 4096 frames, whose ends are shown", SALVAGE,
@@ -321,7 +334,7 @@ def faults_of(case: Case, size: int, seconds: float, memory: float, ended: str) 
     if memory > most:
         yield f"{memory / 1e6:.0f} MB, and not {most / 1e6:.0f}"
     if seconds > case.seconds:
-        yield f"{seconds:.2f} s, and not {case.seconds:.0f}"
+        yield f"{seconds:.2f} s, and not {case.seconds:g}"
     if ended != case.ends:
         yield f"ends with {ended}, and not {case.ends}"
 
@@ -373,7 +386,7 @@ def main() -> int:
     print(f"{machine()}; within {words.seconds} s and {words.memory} MB.\n")
     print(row(heads) + "\n|" + "---|" * len(heads), flush=True)
     odd = 0
-    for case in (*(() if words.judged else (*cases(), *cases_of_salvage(), *shared())), *judged(), *heaps(), *apart()):
+    for case in (*(() if words.judged else (*cases(), *cases_of_salvage(), *shared())), *judged(), *heaps(), *of_asyncio(), *apart()):
         program = words.salvage if case.is_of_salvage() else words.program
         if words.only in case.what and os.path.isfile(program):
             it = measured_thrice(os.path.abspath(program), case, words.seconds, words.memory * 10 ** 6)

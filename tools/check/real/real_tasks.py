@@ -8,7 +8,7 @@ two threads that wait in all kinds of ways, are done, ready, or never ran (tasks
 its state, what it waits for, and the chain of its coroutines with functions, files and lines. Exactly that is to be told, of
 exactly these tasks; and of a core as cores are usually written the tool is to tell the same. So it is where sub-interpreters have loops, and over
 uvloop where that is installed. A loop that a signal from outside cuts at full speed has each of its workers, and no chain that the
-program can't have; a process without asyncio has no tasks. Of some Pythons one with 20,000 tasks is told too, within 20 seconds. Copies of a core whose memory is broken at many places by chance are to end, within 20 seconds too, with tasks in the form
+program can't have; a process without asyncio has no tasks, and where gdb is there the reads are counted that this costs. Of some Pythons one with 20,000 tasks is told too, within 20 seconds. Copies of a core whose memory is broken at many places by chance are to end, within 20 seconds too, with tasks in the form
 that docs/USAGE.md has, or with a status and a line. The layouts and the records are the stored ones. The status is 0 exactly where nothing that was tried failed.
 """
 
@@ -28,6 +28,7 @@ from typing import Any, Callable, Dict, List
 from rooms import ROOT, TOOLS  # (first: it makes the other rooms known)
 
 from child_cores import ALL_PRIVATE, USUAL, Failure, Skip, aborted, core_names, find_core, raise_core_limit
+from counted_reads import reads_of
 from derive_layout import Build, DeriveError, build_of
 from each_python import tell_each
 from find_pythons import pythons
@@ -35,12 +36,16 @@ from real_core import images_of, ran
 from salvage_text import tree_of
 from tasks_text import task_lines
 
-CHILD = Path(__file__).with_name("tasks_child.py")
+CHILD, IMPORTS = (Path(__file__).with_name(it) for it in ("tasks_child.py", "imports_child.py"))
 WAYS = {"running": ALL_PRIVATE, "callback": USUAL}
 """How processes die, and what their cores hold."""
 
 MANY, MANY_IN, MOST_SECONDS = 20000, ((3, 9), (3, 13)), 20
 """How many tasks one process has, of which Pythons, and how long it may take to tell them."""
+
+MOST_READS = 2000
+"""How many more reads a process without asyncio may cost: the name of each module is read by the search for asyncio, and by that for others.
+(Fewer than 2 of a module are none that were counted.)"""
 
 WORKERS, TURNS = 10, 4
 """How many workers run at full speed, and how often a process of these is killed."""
@@ -306,14 +311,21 @@ def over_uvloop(salvage: Path, build: Build, names: str, room: Path) -> str:
 
 
 def without_asyncio(salvage: Path, build: Build, names: str, room: Path) -> str:
-    """A process without asyncio: nothing is told. At most 8 reads for each of its modules are more: 4 for its name, in either search."""
+    """A process that has many modules and not asyncio: nothing is told, and few reads are taken."""
     room.mkdir()
-    child = aborted(command(build, "none"), room)
-    core = child.core(names)
+    child = aborted([build.executable, *build.alone, "-B", "-W", "ignore", str(IMPORTS), ALL_PRIVATE], room)
+    core, modules = child.core(names), json.loads(child.out)["modules"]
     if all_entries(tree_in(salvage, core, build)):
         raise Failure("tasks are told without asyncio")
+    words = [core, *words_of(build.machine), *images_of(core)]
+    counts = [reads_of(salvage, [*words, *more]) for more in ([], ["--tasks"])]
     core.unlink()
-    return f"none with {json.loads(child.out)['modules']} modules"
+    if counts[0] is None or counts[1] is None:
+        return f"none with {modules} modules"
+    more = counts[1] - counts[0]
+    if not 2 * modules <= more <= MOST_READS:
+        raise Failure(f"without asyncio {more} reads are taken for {modules} modules")
+    return f"none with {modules} modules, for {more} reads"
 
 
 PARTS = (in_subs, at_speed, over_uvloop, without_asyncio)

@@ -1,10 +1,10 @@
 """Dies with tasks of asyncio that wait in all kinds of ways, and tells beforehand of each where it stands.
 
-    tasks_child.py HOLDS running|callback|many|subs|speed|uvloop|none COUNT
+    tasks_child.py HOLDS running|callback|many|subs|speed|uvloop COUNT
 
 Run by Python 3.7 or later. HOLDS is what the core is to hold, as coredump_filter has it. It dies in a running task, or in a
 callback of the loop; or with COUNT tasks that wait, and no others but the one that dies; or with sub-interpreters that have
-loops of their own; or it runs COUNT workers at full speed until it is killed; or it dies over uvloop's loop; or without asyncio. It
+loops of their own; or it runs COUNT workers at full speed until it is killed; or it dies over uvloop's loop. It
 prints one JSON object with `tasks`: what is to be told of each, as `pysalvage` has it in its JSON, or `interpreters` with
 those of each. All of it is what Python itself says: `all_tasks`, what the collector knows of tasks that are done, `get_name`,
 `_fut_waiter`, `_must_cancel`, and of a chain `cr_await` and the like; and `stack`, the functions of the task that runs.
@@ -526,7 +526,7 @@ async def at_full_speed(count):
     await forever()
 
 
-# ---- other loops, and none
+# ---- other loops
 
 
 async def over_uvloop():
@@ -545,14 +545,6 @@ async def over_uvloop():
     await dies_in_another([loop])
 
 
-def without_asyncio():
-    """Dies without asyncio: the interpreter's modules are those of a program that has none."""
-    for name in [it for it in sys.modules if it.split(".")[0] in ("asyncio", "_asyncio")]:
-        del sys.modules[name]
-    print(json.dumps({"modules": len(sys.modules)}), flush=True)
-    os.abort()
-
-
 RUNS = {"many": with_many, "subs": with_subs, "speed": at_full_speed}
 
 
@@ -561,8 +553,6 @@ def begin():
     holds, way, count = sys.argv[1:]
     with open("/proc/self/coredump_filter", "w") as file:
         file.write(holds)
-    if way == "none":
-        without_asyncio()
     if way == "uvloop":
         import uvloop
 

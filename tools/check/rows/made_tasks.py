@@ -4,6 +4,8 @@ coroutine and the one that this awaits, and a future."""
 import struct
 from typing import Dict, Sequence, Tuple
 
+from made import EXAMPLE, Objects
+from rows_salvage import named
 from small_core import HEAP, heap
 
 RECORDS = b"""\
@@ -39,8 +41,8 @@ LOOP, STATE, WAITER, CORO, NAME, CANCEL = 16, 80, 144, 152, 160, 176
 class Made:
     """These objects, and where each of them stands, so that some of their words can be changed."""
 
-    def __init__(self, **other: int) -> None:
-        self.objects = heap()
+    def __init__(self, layout: str = EXAMPLE, **other: int) -> None:
+        self.objects = heap(layout)
         self.types: Dict[str, int] = {}
         self.types["type"] = self.type_of("type", 31)
         for name, flag in (("str", 28), ("dict", 29), ("int", 24), ("NoneType", 0), ("Loop", 0), ("T", 0)):
@@ -55,9 +57,7 @@ class Made:
         self.future = self.instance("_asyncio.Future", bytes(144))
         self.inner, self.inner_frame = self.coroutine("g", 7, self.future)
         self.outer, self.outer_frame = self.coroutine("f", 3, self.inner)
-        self.task = self.instance("_asyncio.Task", bytes(184))
-        for place, word in ((LOOP, self.loop), (WAITER, self.future), (CORO, self.outer), (NAME, self.text("worker"))):
-            self.objects.word(self.task + place, word)
+        self.task = self.task_of(self.outer, self.future, "worker")
         self.set_to(self.reference_to(self.task))
 
     def type_of(self, name: str, flag: int) -> int:
@@ -87,12 +87,18 @@ class Made:
         self.objects.word(at + 16, self.dict_of(entries))
         return at
 
-    def coroutine(self, name: str, line: int, awaited: int) -> Tuple[int, int]:
-        """A suspended coroutine that awaits something, and its frame."""
+    def code(self, name: str, line: int) -> int:
+        """The code of a coroutine, whose instruction behind the first one is that of one that awaits."""
         objects = self.objects
         code = objects.write(objects.free(), bytes(96))
         objects.record("code", code, filename=HEAP + 0x180, name=objects.text(name), first_line=line, table=objects.table(b""))
         objects.word(code + 64, objects.table(bytes((0, 0, YIELD_FROM, 0))))
+        return code
+
+    def coroutine(self, name: str, line: int, awaited: int, code: int = 0) -> Tuple[int, int]:
+        """A suspended coroutine that awaits something, and its frame; maybe of a code that is there."""
+        objects = self.objects
+        code = code or self.code(name, line)
         frame = objects.write(objects.free(), bytes(96))
         objects.record("frame", frame, code=code)
         objects.word(frame + 40, frame + 80)
@@ -102,24 +108,36 @@ class Made:
         objects.word(at + 16, frame)
         return at, frame
 
+    def task_of(self, coroutine: int, waiter: int, name: str) -> int:
+        """A task of a coroutine, which waits for something."""
+        at = self.instance("_asyncio.Task", bytes(184))
+        for place, word in ((LOOP, self.loop), (WAITER, waiter), (CORO, coroutine), (NAME, self.text(name))):
+            self.objects.word(at + place, word)
+        return at
+
     def reference_to(self, at: int) -> int:
         """A weak reference."""
         found = self.objects.write(self.objects.free(), bytes(56))
         self.objects.word(found + 16, at)
         return found
 
-    def set_to(self, *members: int, more: Sequence[Tuple[int, int]] = (), module: str = "asyncio.tasks",
-               masks: Sequence[int] = (), others: Sequence[str] = ()) -> None:
-        """Says which weak references the set has, and with which hashes there are others; or of several sets what they say of how many
-        entries they have. The interpreter's modules are written anew, with others of these names."""
+    def set_with(self, entries: Sequence[Tuple[int, int]]) -> int:
+        """A set of these members with their hashes; a member 0 is none."""
         objects = self.objects
-        entries = [(0, 0), *((it, 5) for it in members), *more]
-        entries += [(0, 0)] * (8 - len(entries))
         table = objects.write(objects.free(), b"".join(struct.pack("<2Q", *it) for it in entries))
         held = objects.write(objects.free(), bytes(200))
         objects.word(held + 32, len(entries) - 1)
         objects.word(held + 40, table)
-        sets = [self.set_of(it) for it in masks] or [held]
+        return held
+
+    def set_to(self, *members: int, more: Sequence[Tuple[int, int]] = (), module: str = "asyncio.tasks",
+               masks: Sequence[int] = (), others: Sequence[str] = (), held: int = 0) -> None:
+        """Says which weak references the set has, and with which hashes there are others; or of several sets what they say of how many
+        entries they have; or which set it is. The interpreter's modules are written anew, with others of these names."""
+        objects = self.objects
+        entries = [(0, 0), *((it, 5) for it in members), *more]
+        entries += [(0, 0)] * (8 - len(entries))
+        sets = [self.set_of(it) for it in masks] or [held or self.set_with(entries)]
         weak = [(name, self.with_dict("WeakSet", (("data", it),))) for name, it in zip(("_all_tasks", "_scheduled_tasks"), sets)]
         tasks = self.with_dict("module", (*weak, *zip(("_eager_tasks",), sets[2:]), ("_CTask", self.types["_asyncio.Task"])))
         types = self.with_dict("module", (("CoroutineType", self.types["coroutine"]), ("GeneratorType", self.types["generator"]),
@@ -133,3 +151,46 @@ class Made:
         self.objects.word(held + 32, mask)
         self.objects.word(held + 40, 0x90000)
         return held
+
+
+FAR = 1 << 32
+"""Where there is room for many objects."""
+
+
+def of_tasks(count: int) -> Dict[str, bytes]:
+    """The files of a core with so many tasks, of which each waits for a future of its own, in a chain of three coroutines."""
+    made, near = made_far()
+    codes = [made.code(name, line) for name, line in (("reads", 7), ("works", 5), ("serves", 3))]
+    tasks = []
+    for number in range(count):
+        future = held = made.instance("_asyncio.Future", bytes(144))
+        for code in codes:
+            held, _ = made.coroutine("", 0, held, code)
+        tasks.append(made.task_of(held, future, f"Task-{number}"))
+    return files_far(made, near, tasks)
+
+
+def of_ring(count: int, members: int) -> Dict[str, bytes]:
+    """The files of a core with so many tasks over one ring of so many coroutines."""
+    made, near = made_far()
+    code = made.code("f", 3)
+    ring = [made.coroutine("", 0, 0, code) for _ in range(members)]
+    for (_, frame), (after, _) in zip(ring, [*ring[1:], ring[0]]):
+        made.objects.word(frame + 80, after)
+    return files_far(made, near, [made.task_of(ring[0][0], 0, "t") for _ in range(count)])
+
+
+def made_far() -> Tuple[Made, Objects]:
+    """Objects of which more are laid where there is room, and those that stand in the small core's heap."""
+    made = Made()
+    near = made.objects
+    made.objects = Objects(near.layout, FAR)
+    return made, near
+
+
+def files_far(made: Made, near: Objects, tasks: Sequence[int]) -> Dict[str, bytes]:
+    """The files of a core of these, with tasks."""
+    held, far = made.set_with([(made.reference_to(it), 5) for it in tasks]), made.objects
+    made.objects = near
+    made.set_to(held=held)
+    return {**named(near, more=[far.segment(6)]), "records": RECORDS}

@@ -16,10 +16,12 @@ import growths
 import salvage_text
 import section_text
 import told
+import told_coroutines
 import told_salvage
 import told_tasks
 from child_cores import Failure
 from made import Segment, core_file
+from made_tasks import Made
 from row import row
 from small_core import TEXT
 from sample_cores import counts_text, walk_text
@@ -257,12 +259,29 @@ class Tellers(unittest.TestCase):
                                      (told_tasks.Member(last, 0, {"kind": "created"}), {"kind": "created"}, [last, first]),
                                      (told_tasks.Member(None, 0, {"kind": "object"}), {"kind": "object"}, [first])):
             memory.members.update({one: told_tasks.Member(first, two), two: second})
-            self.assertEqual(memory.chain(one), {"end": end, "members": members})
-        kinds = {it["chain"]["end"]["kind"] for seed in range(200) for it in (told_tasks.task(told_tasks.Memory(Random(seed), 7), 0)[1],)}
-        self.assertEqual(kinds, {"future", "yield", "created", "running", "finished", "not stored", "object", "unreadable", "cycle"})
+            self.assertEqual(memory.chain(one, 2), {"end": end, "members": members})
+        self.assertEqual(memory.chain(one, 1), {"end": {"address": hex(two), "kind": "cut"}, "members": [first]})
+        chains = [(memory.form, told_tasks.task(memory, 0, 1000)[1]["chain"]) for memory in (told_tasks.Memory(Random(seed), 3) for seed in range(1000))]
+        for form in told_coroutines.FORMS:
+            self.assertEqual({it["end"]["kind"] for own, it in chains if type(own) is form},
+                             {"future", "yield", "created", "running", "finished", "not stored", "object", "unreadable", "cycle"}, form)
+        self.assertEqual({it["kind"] for _, chain in chains for it in chain["members"]}, {"coroutine", "generator", "async generator", "between"})
         waiter = {"state": "finished"}
         self.assertEqual([told_tasks.condition(*it) for it in ((7, "cycle", None), (0, "created", waiter), (0, "cycle", waiter), (0, "cycle", {"state": None}))],
                          ["done", "not started", "ready", "waiting"])
+
+    def test_what_stands_between(self):
+        types, members = {"coroutine": 0x7000, "async_generator": 0x8000}, set()
+        for seed in range(300):
+            form = told_coroutines.Framed(Random(seed), Made(told_coroutines.FRAMED_LAYOUT), 2 ** 40)
+            between, held = told_coroutines.Between(form, Random(seed), "another size" if seed % 7 == 0 else ""), form.made.thing
+            form.objects.word(held + 8, (0x7000, 0x8000)[seed % 2])
+            it = between.member(held if seed % 5 else 0, types if seed % 11 else {})
+            is_told = bool(seed % 7 and seed % 5 and seed % 11) and between.wants in ("any", "coroutine" if seed % 2 == 0 else "async_generator")
+            self.assertEqual(it.told is not None, is_told, between.name)
+            members.add((between.name, it.end["kind"] if it.end else "awaits"))
+        self.assertEqual(members, {*((name, "object") for name, *_ in told_coroutines.HOLDERS), ("_asyncio.FutureIter", "future"),
+                                   *((name, "awaits") for name, *_ in told_coroutines.HOLDERS[:4])})
 
     def test_lines(self):
         table = bytes((0, 1, 10, 1, 8, 255, 4))
