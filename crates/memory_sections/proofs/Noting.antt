@@ -13,5 +13,6 @@ pub with_notes : {E : Type 0} (strict crashed : Bool) (bytes : List ℕ) (images
     (pythons : List PythonThread) (notes : List Noted) → AreNotesOfCore bytes notes → (r : Result NativeStacks E)
     → IfOk r (λ stacks. AreNativeStacks bytes (asked_notes crashed notes) images m pythons strict (stacks_shown stacks))
     → IfOk r (AreNative strict crashed bytes images m pythons)
-with_notes strict crashed bytes images m pythons notes are (Ok stacks) told = record { notes = notes; are = are; told = told }
+with_notes strict crashed bytes images m pythons notes are (Ok stacks) told =
+    record { notes = notes; are = are; told = told }
 with_notes strict crashed bytes images m pythons notes are (Err e) told = tt

@@ -109,13 +109,14 @@ asked_notes true notes = notes_of_first notes
 asked_notes false notes = notes
 
 -- the native stacks of the threads that the core's notes tell
-pub record AreNative (strict crashed : Bool) (bytes : List ℕ) (images : Pushed) (m : Memory) (pythons : List PythonThread)
-    (stacks : NativeStacks) : Type 0 where
+pub record AreNative (strict crashed : Bool) (bytes : List ℕ) (images : Pushed) (m : Memory)
+    (pythons : List PythonThread) (stacks : NativeStacks) : Type 0 where
   pub notes : List Noted
   pub are : AreNotesOfCore bytes notes
   pub told : AreNativeStacks bytes (asked_notes crashed notes) images m pythons strict (stacks_shown stacks)
 
-abbrev pub NativeAre : Bool → Bool → Bool → List ℕ → Pushed → Memory → List SalvagedInterpreter → Option NativeStacks → Type 0
+abbrev pub NativeAre : Bool → Bool → Bool → List ℕ → Pushed → Memory → List SalvagedInterpreter → Option NativeStacks
+    → Type 0
 NativeAre asked strict crashed bytes images m is told =
     ToldIf asked (AreNative strict crashed bytes images m (python_threads is)) told
 

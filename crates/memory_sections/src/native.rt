@@ -24,7 +24,7 @@ fn asked_notes<'a>(
     crashed: bool,
     notes: Vec<Note<'a>>,
 ) -> Result<Vec<Note<'a>>, AllocError>
-    ensures { IfOk result (λ asked. map noted asked.items ≡ asked_notes crashed (map noted notes.items)) }
+    ensures { IfOk result (λ asked. map noted asked.items ≡ asked_notes crashed (map noted notes.entry.items)) }
 {
     if crashed {
         return notes_of_first(alloc, &notes);

@@ -245,9 +245,9 @@ fn push_heap(alloc: Global, text: &mut String, heaps: &Option<Heaps>) -> Result<
 /// 0x7F..: NAME`, and of each whose name can't be read why; of each interpreter of which none can be read why, and how
 /// many slots may have a thread whose id is not known; the tasks of each interpreter
 /// (`task_texts::push_tasks`); the exceptions of the threads of each (`exception_texts::push_exceptions`); what each
-/// thread waits for (`py_waits::push_waits`); the native stacks, each in one with the Python frames of its thread, which
-/// is one of those of `interpreters` (`stack_texts::push_stacks`), of each the first and the last `limit` lines; and
-/// what the heaps hold (`heap_texts::push_heaps`). The one error is want of memory.
+/// thread waits for (`py_waits::push_waits`); the native stacks, each in one with its thread's Python frames, which are
+/// among those of `interpreters` (`stack_texts::push_stacks`), of each the first and last `limit` lines; and what the
+/// heaps hold (`heap_texts::push_heaps`). The one error is out of memory.
 pub fn push_memory(
     alloc: Global,
     text: &mut String,

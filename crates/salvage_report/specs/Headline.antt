@@ -157,8 +157,8 @@ pub record SaysNative (s : Salvage) (told : Told) (old new : SinkSeen) : Type 0 
   pub has : HasSalvaged s told old new
   pub stacks : NativeStacks
   pub is : has.left.memory.native ≡ Some stacks
-  pub are : AreNative s.sections.strict s.sections.crashed has.core (images_read s.images has.images) (memory_in has.opened.dumped)
-      (python_threads has.left.salvaged.interpreters.items) stacks
+  pub are : AreNative s.sections.strict s.sections.crashed has.core (images_read s.images has.images)
+      (memory_in has.opened.dumped) (python_threads has.left.salvaged.interpreters.items) stacks
 
 -- Of each of these which of its frames runs which of Python's: from 3.11 on by where the borders of the runs lie, and
 -- up to 3.10 by the order of both (`ArePaired` of paired_stacks).

@@ -82,7 +82,7 @@ help_text = codes "pysalvage CORE --layouts FILE [--records FILE] [-n N] [-l].. 
     ++ (codes "--waits         what each thread waits for: a lock and its owner, the interpreter's lock, or a queue\n"
     ++ (codes "--native        the native stack of each thread, in one with its Python frames\n"
     ++ (codes "--strict        native stacks without guesses\n"
-    ++ (codes "--crashed       of the native stacks that of the thread that got the signal alone\n"
+    ++ (codes "--crashed       the native stack of the thread that got the signal alone\n"
     ++ (codes "--heap          the objects of each class that the collector tracks, and their bytes\n"
     ++ (codes "PATH=FILE       FILE is read in place of the file that the process had mapped from PATH\n"
     ++ (codes "--help          this text\n"

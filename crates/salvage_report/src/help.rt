@@ -29,7 +29,7 @@ CORE            the core's file
 --waits         what each thread waits for: a lock and its owner, the interpreter's lock, or a queue
 --native        the native stack of each thread, in one with its Python frames
 --strict        native stacks without guesses
---crashed       of the native stacks that of the thread that got the signal alone
+--crashed       the native stack of the thread that got the signal alone
 --heap          the objects of each class that the collector tracks, and their bytes
 PATH=FILE       FILE is read in place of the file that the process had mapped from PATH
 --help          this text
