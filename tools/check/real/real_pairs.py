@@ -8,11 +8,13 @@ of a sort, twenty times one below the other), in a `__del__` that runs as a Pyth
 overflows between them, and in a sub-interpreter that another thread made. In the one stack of the thread that died each C function of
 the child stands above the Python function that called it, and below the one that it called; each frame stands once and in
 its order; up to 3.10 both are paired by their order, or not at all where a sub-interpreter's calls are among them, and from 3.11 on by
-addresses. The status is 0 exactly where nothing that was tried failed.
+addresses. With `--crashed` the same is told of that thread, and of no other; and its lines of text are those frames, in that order. The
+status is 0 exactly where nothing that was tried failed.
 """
 
 import argparse
 import json
+import re
 import shutil
 import subprocess
 import sys
@@ -51,16 +53,20 @@ WANTED = {
 """What stands in the stack of the thread that died, of the child's functions, the newest first."""
 
 
-def told(program: Path, core: Path, layouts: Path) -> Tree:
-    """What is told of a core."""
-    run = ran([program, core, "--layouts", layouts, "--records", RECORDS, "-j", "--native", "-n", "4096", *image_words(core)])
+SHOWN = 4096
+"""How many frames of a chain are asked for, and lines of a stack: as many first ones, and as many last ones."""
+
+
+def answered(program: Path, core: Path, layouts: Path, *words: str) -> str:
+    """What is answered of a core."""
+    run = ran([program, core, "--layouts", layouts, "--records", RECORDS, "--native", "-n", str(SHOWN), *words, *image_words(core)])
     if run.status != 0:
         raise Failure(f"status {run.status}: {run.err}")
-    return json.loads(run.out)
+    return run.out
 
 
-def own_names(tree: Tree) -> Tuple[str, List[str]]:
-    """By what both are paired in the thread that got the signal, and the child's functions in its stack."""
+def of_crashed(tree: Tree) -> Tuple[Tree, List[Tree], List[Tree]]:
+    """One stack of both of the thread that got the signal, its Python frames, and its native ones."""
     at = next(at for at, it in enumerate(tree["native"]) if it["crashed"])
     native, one = tree["native"][at], tree["stacks"][at]
     if one is None:
@@ -68,6 +74,43 @@ def own_names(tree: Tree) -> Tuple[str, List[str]]:
     thread = next(it for each in tree["interpreters"] for it in each["threads"] if it["address"] == one["thread"])
     frames = [*thread["frames"]["first"], *thread["frames"]["last"]]
     natives = [frame for part in (native["stack"], native["guessed"]) if part for frame in (*part["frames"], *part["last"])]
+    return one, frames, natives
+
+
+def is_line_of(line: str, item: Tree, frames: Sequence[Tree], natives: Sequence[Tree]) -> bool:
+    """Whether a line is that of a frame, or of a mark."""
+    if item["kind"] == "python":
+        return line.startswith(f"    {frames[item['frame']]['name']} (") and not line.endswith(" [C]")
+    if item["kind"] == "native":
+        return line.startswith(f"    {natives[item['frame']]['pc']} ") and line.endswith(" [C]")
+    return line.startswith("    ... ") and not line.endswith(" [C]")
+
+
+def check_text(tree: Tree, text: str) -> None:
+    """Fails where the text's lines of the thread that got the signal aren't its frames, or another one has a native stack."""
+    one, frames, natives = of_crashed(tree)
+    lines = text.splitlines()
+    heads = [at for at, it in enumerate(lines) if re.match(r"Native thread |Thread [0-9]+ \((Python's|whose) ", it)]
+    if len(heads) != 1 or not lines[heads[0]].endswith(" (crashed)"):
+        raise Failure(f"native stacks of {[lines[at] for at in heads]}")
+    if len(one["items"]) <= 2 * SHOWN:
+        shown, items = lines[heads[0] + 1:][:len(one["items"])], one["items"]
+    else:
+        shown, items = lines[heads[0] + 1:][:SHOWN], one["items"][:SHOWN]
+    wrong = [line for line, it in zip(shown, items) if not is_line_of(line, it, frames, natives)]
+    if len(shown) != len(items) or wrong:
+        raise Failure(f"{len(shown)} lines of {len(items)} frames, {wrong[:3]}")
+
+
+def check_crashed(tree: Tree, alone: Tree) -> None:
+    """Fails where what is told of the thread that got the signal isn't what is told of it among all, or another one has a native stack."""
+    if alone["native"] != tree["native"][:1] or alone["stacks"] != tree["stacks"][:1]:
+        raise Failure(f"{len(alone['native'])} native stacks of the thread that got the signal alone")
+
+
+def own_names(tree: Tree) -> Tuple[str, List[str]]:
+    """By what both are paired in the thread that got the signal, and the child's functions in its stack."""
+    one, frames, natives = of_crashed(tree)
     names: List[str] = []
     if one["pairing"] == "apart":
         return "apart", names
@@ -97,8 +140,10 @@ def tried_way(program: Path, python: str, names: str, room: Path, layouts: Path,
     if child.status >= 0:
         raise Failure(f"a child doesn't die by {way}: {child.said[-200:]}")
     core = child.core(names)
-    tree = told(program, core, layouts)
+    tree = json.loads(answered(program, core, layouts, "-j"))
     check_paired(tree)
+    check_crashed(tree, json.loads(answered(program, core, layouts, "-j", "--crashed")))
+    check_text(tree, answered(program, core, layouts, "--crashed"))
     pairing, own = own_names(tree)
     if pairing != ("apart" if way == "enters" and wanted == "order" else wanted):
         raise Failure(f"{way}: paired by {pairing}")
