@@ -7,8 +7,10 @@ use Rattle.std.specs.List.{concat}
 use Rattle.py_names.specs.declared.names_error.NamesError.{NamesError}
 use Rattle.salvage_texts.specs.Escape.{escaped}
 use Rattle.native_stacks.specs.Stacks.{stacks_shown}
-use Rattle.native_stacks.specs.Text.{stacks_text}
 use Rattle.native_stacks.specs.declared.stacks.NativeStacks.{NativeStacks}
+use Rattle.paired_stacks.specs.declared.stack.PairedStack.{PairedStack}
+use Rattle.py_fronts.specs.declared.salvaged.SalvagedInterpreter.{SalvagedInterpreter}
+use Rattle.stack_texts.specs.Stacks.{stacks_text}
 use Rattle.exception_texts.specs.LastText.{all_exceptions_text}
 use Rattle.exception_texts.specs.declared.told.InterpreterExceptions.{InterpreterExceptions}
 use Rattle.task_texts.specs.Text.{all_tasks_text}
@@ -96,9 +98,15 @@ waits_text (Some waits) = all_waits_text waits.items
 
 -- ---- native stacks
 
-abbrev pub native_text : (limit : ℕ) → Option NativeStacks → List ℕ
-native_text limit None = []
-native_text limit (Some stacks) = stacks_text limit (stacks_shown stacks)
+-- one stack of the Python frames and the native ones of each thread
+abbrev pub pairs_given : Option (Vec (Option PairedStack) Global) → List (Option PairedStack)
+pairs_given None = []
+pairs_given (Some pairs) = pairs.items
+
+abbrev pub native_text : (limit : ℕ) → List SalvagedInterpreter → Option NativeStacks → List (Option PairedStack)
+    → List ℕ
+native_text limit is None pairs = []
+native_text limit is (Some stacks) pairs = stacks_text limit is (stacks_shown stacks) pairs
 
 -- ---- what heaps hold
 
@@ -107,6 +115,7 @@ heap_text None = []
 heap_text (Some heaps) = heaps_text heaps
 
 -- all of them, in order
-abbrev pub memory_text : (limit : ℕ) → MemoryTold → List ℕ
-memory_text limit told = names_text told.names ++ (tasks_text told.tasks ++ (exceptions_text told.exceptions
-    ++ (waits_text told.waits ++ (native_text limit told.native ++ heap_text told.heap))))
+abbrev pub memory_text : (limit : ℕ) → List SalvagedInterpreter → MemoryTold → List ℕ
+memory_text limit is told = names_text told.names ++ (tasks_text told.tasks ++ (exceptions_text told.exceptions
+    ++ (waits_text told.waits ++ (native_text limit is told.native (pairs_given told.stacks)
+    ++ heap_text told.heap))))

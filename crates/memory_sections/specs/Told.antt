@@ -26,6 +26,7 @@ use Rattle.thread_names.specs.declared.own.DictRule.{DictRule}
 use Rattle.thread_names.specs.declared.names.InterpreterNames.{InterpreterNames}
 use Rattle.elf64_core.specs.Notes.{Noted}
 use Rattle.image_memory.specs.Notes.{AreNotesOfCore}
+use Rattle.native_stacks.specs.First.{notes_of_first}
 use Rattle.native_stacks.specs.Stacks.{AreNativeStacks, stacks_shown}
 use Rattle.native_stacks.specs.declared.stacks.NativeStacks.{NativeStacks}
 use Rattle.py_tasks.specs.Frameworks.{frameworks_at}
@@ -101,16 +102,23 @@ TasksAre asked l r m is told = ToldIf asked
 
 -- ---- native stacks
 
+-- the notes by which threads are told: where it is asked for, of status records the first one alone, which is that of
+-- the thread that got the signal
+abbrev pub asked_notes : (crashed : Bool) → List Noted → List Noted
+asked_notes true notes = notes_of_first notes
+asked_notes false notes = notes
+
 -- the native stacks of the threads that the core's notes tell
-pub record AreNative (strict : Bool) (bytes : List ℕ) (images : Pushed) (m : Memory) (pythons : List PythonThread)
-    (stacks : NativeStacks) : Type 0 where
+pub record AreNative (strict crashed : Bool) (bytes : List ℕ) (images : Pushed) (m : Memory)
+    (pythons : List PythonThread) (stacks : NativeStacks) : Type 0 where
   pub notes : List Noted
   pub are : AreNotesOfCore bytes notes
-  pub told : AreNativeStacks bytes notes images m pythons strict (stacks_shown stacks)
+  pub told : AreNativeStacks bytes (asked_notes crashed notes) images m pythons strict (stacks_shown stacks)
 
-abbrev pub NativeAre : Bool → Bool → List ℕ → Pushed → Memory → List SalvagedInterpreter → Option NativeStacks → Type 0
-NativeAre asked strict bytes images m is told =
-    ToldIf asked (AreNative strict bytes images m (python_threads is)) told
+abbrev pub NativeAre : Bool → Bool → Bool → List ℕ → Pushed → Memory → List SalvagedInterpreter → Option NativeStacks
+    → Type 0
+NativeAre asked strict crashed bytes images m is told =
+    ToldIf asked (AreNative strict crashed bytes images m (python_threads is)) told
 
 -- ---- all of them
 
@@ -123,7 +131,7 @@ pub record AreMemoryTold (asked : Sections) (times : ℕ) (bytes : List ℕ) (im
   pub tasks : TasksAre asked.tasks l r m is told.tasks
   pub exceptions : ExceptionsAre asked.exceptions l r m is told.exceptions
   pub waits : WaitsAre asked.waits bytes k l r m is told.waits
-  pub native : NativeAre asked.native asked.strict bytes images m is told.native
+  pub native : NativeAre asked.native asked.strict asked.crashed bytes images m is told.native
   pub stacks : PairsAre bytes k v l r m is told.native told.stacks
   pub values : ValuesAre times k l (rule_of l r) (coroutine_rule_of l r) m is told.values
   pub heap : HeapIs asked.heap k v l r m is told.heap

@@ -2,18 +2,21 @@
 ghost use Rattle.std.specs.Prelude.{◌≡◌, ◌++◌, OnOk, string_bytes};
 ghost use Rattle.memory_sections.specs.Text.{all_names_text, exceptions_text, fault_lead, fault_text, heap_text};
 ghost use Rattle.memory_sections.specs.Text.{interpreter_text, lead_text, lost_lead, lost_text, memory_text};
-ghost use Rattle.memory_sections.specs.Text.{name_text, names_text, native_text, tasks_text, thread_text};
+ghost use Rattle.memory_sections.specs.Text.{name_text, names_text, native_text, pairs_given, tasks_text, thread_text};
 ghost use Rattle.memory_sections.specs.Text.{threads_text, unread_lead, unread_text, waits_text};
 
 use crate::told::MemoryTold;
 use elf64_core::Text;
 use exception_texts::{InterpreterExceptions, push_exceptions};
 use heap_texts::push_heaps;
-use native_stacks::{NativeStacks, push_native_stacks};
+use native_stacks::NativeStacks;
+use paired_stacks::PairedStack;
+use py_fronts::SalvagedInterpreter;
 use py_heap::Heaps;
 use py_names::NamesError;
 use py_waits::{InterpreterWaits, push_waits};
 use salvage_texts::push_escaped;
+use stack_texts::push_stacks;
 use std::alloc::{AllocError, Global};
 use task_texts::{InterpreterTasks, push_tasks};
 use thread_names::{InterpreterNames, ThreadName, fault_word, thread_fault_word};
@@ -200,17 +203,30 @@ fn push_own_waits(
     }
 }
 
-/// The native stacks, where they are asked for.
+/// One stack of the Python frames and the native ones of each thread; none where they are not asked for.
+fn pairs_given(pairs: &Option<Vec<Option<PairedStack>>>) -> &[Option<PairedStack>]
+    ensures { result.now ≡ pairs_given pairs.now }
+{
+    match pairs {
+        Some(pairs) => pairs,
+        None => &[],
+    }
+}
+
+/// The native stacks, each with the thread's Python frames, where they are asked for.
 fn push_native(
     alloc: Global,
     text: &mut String,
     limit: usize,
+    interpreters: &[SalvagedInterpreter],
     native: &Option<NativeStacks>,
+    pairs: &Option<Vec<Option<PairedStack>>>,
 ) -> Result<(), AllocError>
-    ensures { OnOk result (string_bytes text.new ≡ string_bytes text.old ++ native_text limit native.now) }
+    ensures { OnOk result (string_bytes text.new
+        ≡ string_bytes text.old ++ native_text limit interpreters.now native.now (pairs_given pairs.now)) }
 {
     match native {
-        Some(stacks) => push_native_stacks(alloc, text, limit, stacks),
+        Some(stacks) => push_stacks(alloc, text, limit, interpreters, stacks, pairs_given(pairs)),
         None => Ok(()),
     }
 }
@@ -229,21 +245,23 @@ fn push_heap(alloc: Global, text: &mut String, heaps: &Option<Heaps>) -> Result<
 /// 0x7F..: NAME`, and of each whose name can't be read why; of each interpreter of which none can be read why, and how
 /// many slots may have a thread whose id is not known; the tasks of each interpreter
 /// (`task_texts::push_tasks`); the exceptions of the threads of each (`exception_texts::push_exceptions`); what each
-/// thread waits for (`py_waits::push_waits`); the native stacks (`native_stacks::push_native_stacks`), of each the
-/// first and the last `limit` frames; and what the heaps hold (`heap_texts::push_heaps`). The one error is want of
-/// memory.
+/// thread waits for (`py_waits::push_waits`); the native stacks, each in one with its thread's Python frames, which are
+/// among those of `interpreters` (`stack_texts::push_stacks`), of each the first and last `limit` lines; and what the
+/// heaps hold (`heap_texts::push_heaps`). The one error is out of memory.
 pub fn push_memory(
     alloc: Global,
     text: &mut String,
     limit: usize,
+    interpreters: &[SalvagedInterpreter],
     told: &MemoryTold,
 ) -> Result<(), AllocError>
-    ensures { OnOk result (string_bytes text.new ≡ string_bytes text.old ++ memory_text limit told.now) }
+    ensures { OnOk result (string_bytes text.new
+        ≡ string_bytes text.old ++ memory_text limit interpreters.now told.now) }
 {
     push_names(alloc, text, &told.names)?;
     push_own_tasks(alloc, text, &told.tasks)?;
     push_own_exceptions(alloc, text, &told.exceptions)?;
     push_own_waits(text, &told.waits)?;
-    push_native(alloc, text, limit, &told.native)?;
+    push_native(alloc, text, limit, interpreters, &told.native, &told.stacks)?;
     push_heap(alloc, text, &told.heap)
 }

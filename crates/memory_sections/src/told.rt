@@ -95,6 +95,7 @@ pub fn tell_memory(
         alloc,
         asked.native,
         asked.strict,
+        asked.crashed,
         images,
         process,
         interpreters,

@@ -151,13 +151,14 @@ pub record SaysWaits (s : Salvage) (told : Told) (old new : SinkSeen) : Type 0 w
   pub are : AreWaits has.core has.opened.known has.opened.layout (records_of has.tables has.opened.version)
       (memory_in has.opened.dumped) has.left.salvaged.interpreters.items waits
 
--- the native stacks of the threads that the core's notes tell, without guesses where that is asked for
+-- the native stacks of the threads that the core's notes tell, without guesses where that is asked for; where it is
+-- asked for, of the first one alone, which is the one that got the signal
 pub record SaysNative (s : Salvage) (told : Told) (old new : SinkSeen) : Type 0 where
   pub has : HasSalvaged s told old new
   pub stacks : NativeStacks
   pub is : has.left.memory.native ≡ Some stacks
-  pub are : AreNative s.sections.strict has.core (images_read s.images has.images) (memory_in has.opened.dumped)
-      (python_threads has.left.salvaged.interpreters.items) stacks
+  pub are : AreNative s.sections.strict s.sections.crashed has.core (images_read s.images has.images)
+      (memory_in has.opened.dumped) (python_threads has.left.salvaged.interpreters.items) stacks
 
 -- Of each of these which of its frames runs which of Python's: from 3.11 on by where the borders of the runs lie, and
 -- up to 3.10 by the order of both (`ArePaired` of paired_stacks).

@@ -52,8 +52,8 @@ rest_text left = section_text threads_text (registers_shown left.told.registers)
 abbrev pub left_text : List ℕ → (limit : ℕ) → Left → List ℕ
 left_text core limit left = signal_text (core_name core) left.signal ++ (section_text info_text left.told.signal
     ++ (process_text left.process ++ (version_line left.named left.version
-    ++ (salvaged_text left.values (names_given left.memory.names) left.salvaged ++ (memory_text limit left.memory
-    ++ rest_text left)))))
+    ++ (salvaged_text left.values (names_given left.memory.names) left.salvaged
+    ++ (memory_text limit left.salvaged.interpreters.items left.memory ++ rest_text left)))))
 
 -- that, or JSON where it is asked for
 abbrev pub shown_left : Salvage → Left → List ℕ
@@ -63,7 +63,7 @@ shown_left s left =
 unfoldable pub help_text : List ℕ
 help_text = codes "pysalvage CORE --layouts FILE [--records FILE] [-n N] [-l].. [-j] [--signal] [--registers]\n"
     ++ (codes "          [--missing] [--check-layout] [--names] [--tasks] [--exceptions] [--waits]\n"
-    ++ (codes "          [--native [--strict]] [--heap] [PATH=FILE]..\n\n"
+    ++ (codes "          [--native [--strict] [--crashed]] [--heap] [PATH=FILE]..\n\n"
     ++ (codes "What is left of the Python stacks in the core of a broken process, or in one that was cut: each chain "
     ++ (codes "of threads and\nframes as far as it goes. Where no mark stands a chain is whole.\n\n"
     ++ (codes "CORE            the core's file\n"
@@ -80,12 +80,13 @@ help_text = codes "pysalvage CORE --layouts FILE [--records FILE] [-n N] [-l].. 
     ++ (codes "--tasks         the tasks of asyncio, of each interpreter: where they stand and what they wait for\n"
     ++ (codes "--exceptions    the exceptions that each thread raises and handles, with their tracebacks\n"
     ++ (codes "--waits         what each thread waits for: a lock and its owner, the interpreter's lock, or a queue\n"
-    ++ (codes "--native        the native stack of each thread\n"
+    ++ (codes "--native        the native stack of each thread, in one with its Python frames\n"
     ++ (codes "--strict        native stacks without guesses\n"
+    ++ (codes "--crashed       the native stack of the thread that got the signal alone\n"
     ++ (codes "--heap          the objects of each class that the collector tracks, and their bytes\n"
     ++ (codes "PATH=FILE       FILE is read in place of the file that the process had mapped from PATH\n"
     ++ (codes "--help          this text\n"
-    ++ codes "--version       the version of the program\n")))))))))))))))))))))))
+    ++ codes "--version       the version of the program\n"))))))))))))))))))))))))
 
 abbrev pub program_version : List ℕ
 program_version = codes "pysalvage 1.0.0\n"

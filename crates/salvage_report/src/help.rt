@@ -8,7 +8,7 @@ use std::alloc::{AllocError, Global};
 const HELP: &str = "\
 pysalvage CORE --layouts FILE [--records FILE] [-n N] [-l].. [-j] [--signal] [--registers]
           [--missing] [--check-layout] [--names] [--tasks] [--exceptions] [--waits]
-          [--native [--strict]] [--heap] [PATH=FILE]..
+          [--native [--strict] [--crashed]] [--heap] [PATH=FILE]..
 
 What is left of the Python stacks in the core of a broken process, or in one that was cut: each chain of threads and
 frames as far as it goes. Where no mark stands a chain is whole.
@@ -27,8 +27,9 @@ CORE            the core's file
 --tasks         the tasks of asyncio, of each interpreter: where they stand and what they wait for
 --exceptions    the exceptions that each thread raises and handles, with their tracebacks
 --waits         what each thread waits for: a lock and its owner, the interpreter's lock, or a queue
---native        the native stack of each thread
+--native        the native stack of each thread, in one with its Python frames
 --strict        native stacks without guesses
+--crashed       the native stack of the thread that got the signal alone
 --heap          the objects of each class that the collector tracks, and their bytes
 PATH=FILE       FILE is read in place of the file that the process had mapped from PATH
 --help          this text

@@ -132,7 +132,13 @@ fn left_text(alloc: Global, core: &Name, limit: usize, left: &Left) -> Result<Ve
         &left.salvaged,
     )?;
     text.push_str(salvaged.as_str())?;
-    push_memory(alloc, &mut text, limit, &left.memory)?;
+    push_memory(
+        alloc,
+        &mut text,
+        limit,
+        &left.salvaged.interpreters,
+        &left.memory,
+    )?;
     push_rest(&mut text, left)?;
     Ok(text.into_bytes())
 }

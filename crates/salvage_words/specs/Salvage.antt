@@ -25,14 +25,14 @@ records_rule = record (new_rule (codes "records")) { long = Some (codes "records
 abbrev pub salvage_app : App
 salvage_app =
     with_rule (with_rule (with_rule (with_rule (with_rule (with_rule (with_rule (with_rule (with_rule (with_rule
-    (with_rule (with_rule (with_rule (with_rule (with_rule (with_rule (with_rule (with_rule
+    (with_rule (with_rule (with_rule (with_rule (with_rule (with_rule (with_rule (with_rule (with_rule
     (new_app (codes "pysalvage"))
     core_rule) (wanted_rule (codes "layouts") None)) records_rule) frames_rule) locals_rule)
     (flag_rule (codes "json") (Some 106))) (flag_rule (codes "signal") None))
     (flag_rule (codes "registers") None)) (flag_rule (codes "missing") None)) (flag_rule (codes "check-layout") None))
     (flag_rule (codes "names") None)) (flag_rule (codes "tasks") None)) (flag_rule (codes "exceptions") None))
     (flag_rule (codes "waits") None)) (flag_rule (codes "native") None)) (flag_rule (codes "strict") None))
-    (flag_rule (codes "heap") None)) images_rule
+    (flag_rule (codes "crashed") None)) (flag_rule (codes "heap") None)) images_rule
 
 -- what clap finds, where it takes the words; it reads none of the first, which stands for the program's name
 unfoldable pub taken_rows : List Text → Option (List Row)
@@ -77,6 +77,7 @@ sections_of rows = record {
   waits = is_set (codes "waits") rows;
   native = is_set (codes "native") rows;
   strict = is_set (codes "strict") rows;
+  crashed = is_set (codes "crashed") rows;
   heap = is_set (codes "heap") rows;
 }
 

@@ -36,6 +36,8 @@ pub struct Sections {
     pub native: bool,
     /// `--strict`: native stacks without guesses.
     pub strict: bool,
+    /// `--crashed`: native stacks of the thread that got the signal alone.
+    pub crashed: bool,
     /// `--heap`: the objects of each class that the collector tracks.
     pub heap: bool,
 }
@@ -115,6 +117,7 @@ fn sections_by(matches: &ArgMatches<'_>) -> Sections
         waits: is_set(matches, "waits"),
         native: is_set(matches, "native"),
         strict: is_set(matches, "strict"),
+        crashed: is_set(matches, "crashed"),
         heap: is_set(matches, "heap"),
     }
 }

@@ -58,6 +58,7 @@ fn salvage_command<'a>(alloc: Global) -> Result<Command<'a>, AllocError>
         .arg(flag(alloc, "waits", None))?
         .arg(flag(alloc, "native", None))?
         .arg(flag(alloc, "strict", None))?
+        .arg(flag(alloc, "crashed", None))?
         .arg(flag(alloc, "heap", None))?
         .arg(images_arg(alloc))
 }

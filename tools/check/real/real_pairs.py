@@ -8,14 +8,16 @@ of a sort, twenty times one below the other), in a `__del__` that runs as a Pyth
 overflows between them, in a sub-interpreter that another thread made, and, where the module `greenlet` is there, in a greenlet beside a
 parked one. In the one stack of the thread that died each C function of the child stands above the Python function that called it, and
 below the one that it called; each frame stands once and in its order; up to 3.10 both are paired by their order, or not at all where a
-sub-interpreter's calls are among them, and from 3.11 on by addresses. Where gdb is there and the build's debug information has it, the variable of each frame of the evaluation loop that names the
-Python frame it runs is asked too: it is the newest of the Python frames that stand above that native frame. From 3.12 on some have to be
-told. The status is 0 exactly where nothing that was tried failed.
+sub-interpreter's calls are among them, and from 3.11 on by addresses. With `--crashed` the same is told of that thread, and of no other;
+and its lines of text are those frames, in that order. Where gdb is there and the build's debug information has it, the variable of each
+frame of the evaluation loop that names the Python frame it runs is asked too: it is the newest of the Python frames that stand above that
+native frame. From 3.12 on some have to be told. The status is 0 exactly where nothing that was tried failed.
 """
 
 import argparse
 import json
 import os
+import re
 import shutil
 import subprocess
 import sys
@@ -56,12 +58,16 @@ WANTED = {
 Python frames there: the loop of another one stands in the C stack, and runs none."""
 
 
-def told(program: Path, core: Path, layouts: Path) -> Tree:
-    """What is told of a core."""
-    run = ran([program, core, "--layouts", layouts, "--records", RECORDS, "-j", "--native", "-n", "4096", *image_words(core)])
+SHOWN = 4096
+"""How many frames of a chain are asked for, and lines of a stack: as many first ones, and as many last ones."""
+
+
+def answered(program: Path, core: Path, layouts: Path, *words: str) -> str:
+    """What is answered of a core."""
+    run = ran([program, core, "--layouts", layouts, "--records", RECORDS, "--native", "-n", str(SHOWN), *words, *image_words(core)])
     if run.status != 0:
         raise Failure(f"status {run.status}: {run.err}")
-    return json.loads(run.out)
+    return run.out
 
 
 def stack_that_died(tree: Tree) -> Tuple[Tree, Tree]:
@@ -80,6 +86,43 @@ def parts_of(tree: Tree) -> Tuple[List[Tree], List[Tree], List[Tree]]:
     frames = [*thread["frames"]["first"], *thread["frames"]["last"]]
     natives = [frame for part in (native["stack"], native["guessed"]) if part for frame in (*part["frames"], *part["last"])]
     return natives, frames, [] if one["pairing"] == "apart" else one["items"]
+
+
+def of_crashed(tree: Tree) -> Tuple[Tree, List[Tree], List[Tree]]:
+    """One stack of both of the thread that got the signal, its Python frames, and its native ones."""
+    natives, frames, _ = parts_of(tree)
+    return stack_that_died(tree)[1], frames, natives
+
+
+def is_line_of(line: str, item: Tree, frames: Sequence[Tree], natives: Sequence[Tree]) -> bool:
+    """Whether a line is that of a frame, or of a mark."""
+    if item["kind"] == "python":
+        return line.startswith(f"    {frames[item['frame']]['name']} (") and not line.endswith(" [C]")
+    if item["kind"] == "native":
+        return line.startswith(f"    {natives[item['frame']]['pc']} ") and line.endswith(" [C]")
+    return line.startswith("    ... ") and not line.endswith(" [C]")
+
+
+def check_text(tree: Tree, text: str) -> None:
+    """Fails where the text's lines of the thread that got the signal aren't its frames, or another one has a native stack."""
+    one, frames, natives = of_crashed(tree)
+    lines = text.splitlines()
+    heads = [at for at, it in enumerate(lines) if re.match(r"Native thread |Thread [0-9]+ \((Python's|whose) ", it)]
+    if len(heads) != 1 or not lines[heads[0]].endswith(" (crashed)"):
+        raise Failure(f"native stacks of {[lines[at] for at in heads]}")
+    if len(one["items"]) <= 2 * SHOWN:
+        shown, items = lines[heads[0] + 1:][:len(one["items"])], one["items"]
+    else:
+        shown, items = lines[heads[0] + 1:][:SHOWN], one["items"][:SHOWN]
+    wrong = [line for line, it in zip(shown, items) if not is_line_of(line, it, frames, natives)]
+    if len(shown) != len(items) or wrong:
+        raise Failure(f"{len(shown)} lines of {len(items)} frames, {wrong[:3]}")
+
+
+def check_crashed(tree: Tree, alone: Tree) -> None:
+    """Fails where what is told of the thread that got the signal isn't what is told of it among all, or another one has a native stack."""
+    if alone["native"] != tree["native"][:1] or alone["stacks"] != tree["stacks"][:1]:
+        raise Failure(f"{len(alone['native'])} native stacks of the thread that got the signal alone")
 
 
 def own_names(tree: Tree) -> Tuple[str, List[str]]:
@@ -193,8 +236,10 @@ def tried_way(program: Path, python: str, names: str, room: Path, layouts: Path,
     if child.status >= 0:
         raise Failure(f"a child doesn't die by {way}: {child.said[-200:]}")
     core = child.core(names)
-    tree = told(program, core, layouts)
+    tree = json.loads(answered(program, core, layouts, "-j"))
     check_paired(tree)
+    check_crashed(tree, json.loads(answered(program, core, layouts, "-j", "--crashed")))
+    check_text(tree, answered(program, core, layouts, "--crashed"))
     pairing, own = own_names(tree)
     if pairing != ("apart" if way == "enters" and wanted == "order" else wanted):
         raise Failure(f"{way}: paired by {pairing}")

@@ -144,7 +144,37 @@ def guesses() -> Iterator[Row]:
                  f"    0x70000013 0x400012 (made.so) <frame pointer> <guess>\n{CALLER} <guess>\n", base=STACK + 8)
 
 
+PYTHONS = "Thread 9 (Python's 0x7F00) (crashed)\n"
+"""The line of the thread of Python's."""
+
+BESIDE = "    ... where these stand among the native frames is not known\n    f (a.py)\n    <module> (a.py)\n"
+"""Its Python frames, where none of Python's own code tells which native frame runs them."""
+
+
+def both(what: str, words: str, lines: str, signal: int = 11, at: int = CODE + 0x24, stack: Sequence[int] = (0, 0, 0, CODE + 0x30, 0, 0, 0, 0)) -> Row:
+    """A row of a thread of Python's, over these words of its stack, and behind it of one that is none of Python's."""
+    files = files_over([status(9, signal, at, STACK, STACK + 8, 0x7F00), status(10, 0, CODE + 0x24, STACK + 32)], stack)
+    text = TEXT.replace("0x7F00", "0x7F00 (crashed)") if signal else TEXT
+    return salvage(f"native: {what}", f"{WORDS}{words}", files, f"Signal {signal}: core\nProcess 4: p\n{text}{lines}")
+
+
+def in_one() -> Iterator[Row]:
+    """One stack of a thread's Python frames and its native ones, and that of the thread that got the signal alone."""
+    own, other = f"{HERE[:-1]} [C]\n{CALLER} [C]\n", f"Native thread 10\n{HERE}"
+    yield both("in one with Python's frames", "", f"{PYTHONS}{own}{BESIDE}{other}")
+    yield both("of the crashed thread alone", " --crashed", f"{PYTHONS}{own}{BESIDE}")
+    yield both("of the first thread, where no signal is told", " --crashed", f"{PYTHONS.replace(' (crashed)', '')}{own}{BESIDE}", signal=0)
+    yield both("the first and the last line", " --crashed -n 1", f"{PYTHONS}{HERE[:-1]} [C]\n    ... 3 more lines\n    <module> (a.py)\n")
+    guess = f"{NONE[:-1]} [C]\n{CALLER} <guess> [C]\n{BESIDE}    ... no table covers 0x70000012\n    ... guess: frame pointer\n"
+    stack = [0, 0x33, CODE + 0x30, 0, 0, 0, 0, 0, 0, 0]
+    yield both("in one, behind a guess", " --crashed", f"{PYTHONS}{guess}", at=CODE + 0x12, stack=stack)
+    strict = f"{PYTHONS}{NONE[:-1]} [C]\n{BESIDE}    ... no table covers 0x70000012\n"
+    yield both("in one, strict", " --crashed --strict", strict, at=CODE + 0x12, stack=stack)
+    files = files_over([status(9, 11, CODE + 0x24)], [0] * 4)
+    yield salvage("native: --crashed alone asks for nothing", f"{GOOD} --crashed", files, f"Signal 11: core\nProcess 4: p\n{TEXT}")
+
+
 def rows() -> Iterator[Row]:
     """All rows."""
-    for part in (ends, limits, marks, guesses):
+    for part in (ends, limits, marks, guesses, in_one):
         yield from part()

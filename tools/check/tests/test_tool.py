@@ -412,7 +412,7 @@ class Shown(Case):
         self.assertEqual((ran.returncode, ran.stderr), (4, b""))
 
 
-KNOWN = "pysalvage --names --tasks --native [--strict]"
+KNOWN = "pysalvage --names --tasks --native [--strict] [--crashed]"
 """The help of a program that tells these sections."""
 
 LIBC, OWN, PYTHON = "/lib/libc.so.6", "/srv/fast.so", "/usr/lib/libpython3.11.so.1.0"
@@ -559,6 +559,16 @@ class Native(Case):
         self.assertEqual(self.where(nowhere), ["In 0x7f1000 (in no file)"])
         handler = native_stack(native_frame(None, LIBC, signal=True), *CALLED["frames"])
         self.assertEqual(self.where(handler), [line])
+
+    def test_where_asks(self):
+        # (no other native stack is told than that of the thread that got the signal; an earlier program tells all)
+        for words, help_text, wanted in (
+            ([], KNOWN, ["--native", "--crashed"]), (["--strict"], KNOWN, ["--native", "--strict", "--crashed"]), (["--native"], KNOWN, ["--native"]),
+            (["--all-native"], KNOWN, ["--native"]), (["--no-where"], KNOWN, []), ([], KNOWN.replace(" [--crashed]", ""), ["--native"]),
+        ):
+            self.shown(native_thread(99, CALLED, 0x7F00, True), words=words, help_text=help_text)
+            said = (self.folder / "pysalvage.said" / "words").read_text().split("\n")
+            self.assertEqual([it for it in said if it in ("--native", "--strict", "--crashed")], wanted)
 
     def test_where_python_died(self):
         for stack in (native_stack(native_frame("f", PYTHON), native_frame("fill", OWN)), native_stack(native_frame("abort", LIBC), native_frame("os_abort", PYTHON)),

@@ -69,9 +69,14 @@ def tasks_command(options: Options, program: str, core: OpenedCore) -> List[byte
     return [*command_of(words, [core.name]), *core.images]
 
 
-def native_words(options: Options) -> List[str]:
-    """The flags for native stacks."""
-    return [NATIVE, *["--strict"] * options.strict]
+CRASHED = "--crashed"
+"""The flag of `pysalvage` for the native stack of the thread that got the signal alone."""
+
+
+def native_words(options: Options, program: str) -> List[str]:
+    """The flags for native stacks: for that of the thread that got the signal alone, where no other is shown. (An earlier program tells
+    all.)"""
+    return [NATIVE, *["--strict"] * options.strict, *[CRASHED] * (not options.native and knows(program, CRASHED))]
 
 
 def salvage_command(options: Options, program: str, core: OpenedCore, with_native: bool = False) -> List[bytes]:
@@ -84,7 +89,7 @@ def salvage_command(options: Options, program: str, core: OpenedCore, with_nativ
     sections += [EXCEPTIONS] * (options.exceptions and knows(program, EXCEPTIONS))
     sections += [WAITS] * (options.waits and knows(program, WAITS))
     sections += [HEAP] * (options.heap and knows(program, HEAP))
-    sections += native_words(options) * with_native
+    sections += native_words(options, program) * with_native
     records = [f"--records={core.records}"] if core.records else []
     ends = [f"--frames={options.frames}"] if options.frames is not None else []
     asked = ["-j", *ends, *["-l"] * options.locals, *sections, "--", core.word]
@@ -95,6 +100,6 @@ def salvage_command(options: Options, program: str, core: OpenedCore, with_nativ
 def native_command(options: Options, program: str, core: OpenedCore) -> List[bytes]:
     """The words of `pysalvage` for native stacks alone, with each file that the process had mapped."""
     ends = [f"--frames={options.frames}"] if options.frames is not None else []
-    sections = [*native_words(options), *["--missing"] * (core.part is not None)]
+    sections = [*native_words(options, program), *["--missing"] * (core.part is not None)]
     words = [program, f"--layouts={core.layouts}", "-j", *ends, *sections, "--", core.word]
     return [*command_of(words, [core.name]), *core.images, *core.other_images()]

@@ -13,5 +13,5 @@ returns c =
     let pythons = python_threads c.args.interpreters.now in
     let result = c.native_over.result in
     let told = rw (c.deref.ensures.value, c.in_ok-pythons.ensures, c.core-core.ensures.same) at c.native_over.ensures in
-    subst (λ ps. IfOk result (AreNative strict c.args.process.now.dump.core images (byte_at ps) pythons))
+    subst (λ ps. IfOk result (AreNative strict c.args.crashed c.args.process.now.dump.core images (byte_at ps) pythons))
     (ap (λ (s : Seen). s.pieces) (c.new-view.ensures ∙ c.view.ensures)) told

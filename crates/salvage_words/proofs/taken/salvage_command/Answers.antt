@@ -24,7 +24,8 @@ returns c =
     let waits = c.in_ok-arg-14.ensures.shape c.flag-9.ensures.local ∙ ap₂ with_rule exceptions c.flag-9.ensures.rule in
     let native = c.in_ok-arg-15.ensures.shape c.flag-10.ensures.local ∙ ap₂ with_rule waits c.flag-10.ensures.rule in
     let strict = c.in_ok-arg-16.ensures.shape c.flag-11.ensures.local ∙ ap₂ with_rule native c.flag-11.ensures.rule in
-    let heap = c.in_ok-arg-17.ensures.shape c.flag-12.ensures.local ∙ ap₂ with_rule strict c.flag-12.ensures.rule in
-    IfOk-weaker c.arg-18.result _ _
+    let crashed = c.in_ok-arg-17.ensures.shape c.flag-12.ensures.local ∙ ap₂ with_rule strict c.flag-12.ensures.rule in
+    let heap = c.in_ok-arg-18.ensures.shape c.flag-13.ensures.local ∙ ap₂ with_rule crashed c.flag-13.ensures.rule in
+    IfOk-weaker c.arg-19.result _ _
     (λ command added. added.shape c.images_arg.ensures.local ∙ ap₂ with_rule heap c.images_arg.ensures.rule)
-    c.arg-18.ensures
+    c.arg-19.ensures
