@@ -13,9 +13,11 @@ use Rattle.core_merge.specs.declared.error.CoreMergeError.TheVariants.{BadLine}
 abbrev pub is_address_line : List ℕ → Bool
 is_address_line line = starts_with nat_eq line (codes "0x") && is_number (drop 2 line)
 
+-- the address of a line of an address file, behind its `0x`
 abbrev pub address_of_line : List ℕ → ℕ
 address_of_line line = digits_value 16 (drop 2 line)
 
+-- each line is that of an address
 abbrev pub AreAddressLines : List (List ℕ) → Type 0
 AreAddressLines lines = All (λ line. is_address_line line ≡ true) lines
 
@@ -36,6 +38,7 @@ AddressesSay text (Ok addrs) =
 AddressesSay text (Err (BadLine number)) = IsFirstBadLine (lines_of text) number
 AddressesSay text (Err _) = ⊥
 
+-- a result with the addresses
 abbrev pub numbers_in : Result (Vec ℕ Global) CoreMergeError → Result (List ℕ) CoreMergeError
 numbers_in (Ok v) = Ok v.items
 numbers_in (Err e) = Err e

@@ -79,6 +79,7 @@ SaysOrdered made (Ok ordered) = AreOrdered made ordered × (in_order ordered ≡
 SaysOrdered made (Err MapsOverlap) = (ordered : List MapsEntry) × AreOrdered made ordered × (in_order ordered ≡ false)
 SaysOrdered made (Err _) = ⊥
 
+-- a result with the maps of a core
 abbrev pub entries_in : Result (Vec MapsEntry Global) CoreMergeError → Result (List MapsEntry) CoreMergeError
 entries_in (Ok v) = Ok v.items
 entries_in (Err e) = Err e

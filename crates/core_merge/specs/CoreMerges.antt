@@ -21,6 +21,7 @@ MergedBy images python frames addrs entries answer =
     ⊎ ((list_any (overflows entries) addrs ≡ false)
     × ImageMergeSays (files_mapped entries images) python frames addrs answer)
 
+-- what merging has to answer, by the maps of a core
 abbrev pub MergedWith : List ℕ → Pushed → (ℕ → Bool) → List Call → List ℕ
     → Result (List Call) CoreMergeError → Type 0
 MergedWith bytes images python frames addrs = Then (EntriesSay bytes) (MergedBy images python frames addrs)

@@ -30,6 +30,7 @@ pub record IsImageMerge (files : FilesMapped) (python : ℕ → Bool) (frames : 
   pub each : AllZip (IsImageAnswer files) addrs answers
   pub shows : ShowsMerged nothing_exists (merged ends_part frames (all_items python addrs answers)) answer
 
+-- what merging by images has to answer: the stack, or that the counts don't fit
 abbrev pub ImageMergeSays : FilesMapped → (ℕ → Bool) → List Call → List ℕ
     → Result (List Call) CoreMergeError → Type 0
 ImageMergeSays files python frames addrs (Ok shown) = IsImageMerge files python frames addrs (Ok shown)

@@ -96,7 +96,7 @@ pub fn merge_thread(
     ensures right { IsErrOf result CoreMergeError.OutOfMemory
         ⊎ CoreMergeIs core.now images.now (is_python python libpython) (calls frames.now) addresses.now
         (calls_of_result result) }
-    // what is right is the answer, want of memory aside
+    // what is right is the answer, out of memory aside
     ensures only { (answer : Result (List Call) Refusal)
         → CoreMergeIs core.now images.now (is_python python libpython) (calls frames.now) addresses.now answer
         → IsErrOf result CoreMergeError.OutOfMemory ⊎ (answer ≡ calls_of_result result) }

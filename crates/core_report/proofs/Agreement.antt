@@ -1,4 +1,4 @@
--- Two outcomes of a command over the same contents have one status, want of memory aside; and over contents with
+-- Two outcomes of a command over the same contents have one status, out of memory aside; and over contents with
 -- which nothing is wrong no outcome is a cause: of walks, reports, groups, objects and merged threads.
 use Rattle.std.proofs.Common.{◌≡◌, ◌≢◌, ◌⊎◌, ℕ, List, [], ◌∷◌, Result, Ok, Err, refl, sym, ap, subst, ◌∙◌, Bool, inl}
 use Rattle.std.proofs.Common.{inr, ⊎_elim, rules}
@@ -79,7 +79,7 @@ outcome_class outcome = settled (outcome_status outcome)
 abbrev pub Agree : (Outcome → Type 0) → Type 0
 Agree Right = AgreeBy cause_status settled Right
 
--- no cause is right but want of memory, and those that a command has of its own
+-- no cause is right but out of memory, and those that a command has of its own
 abbrev pub NoCause : (Outcome → Type 0) → Type 0
 NoCause Right = NoCauseBut cause_status IsOwnCause Right
 

@@ -1,4 +1,4 @@
--- Two outcomes of a command over the same contents have one status, want of memory aside, but that a slim core and too
+-- Two outcomes of a command over the same contents have one status, out of memory aside, but that a slim core and too
 -- many pieces may both be right; and over contents with which nothing is wrong no outcome is a cause but a command's own.
 use Rattle.std.proofs.Common.{ℕ, List, arith, inr}
 use Rattle.core_words.specs.Words.{Command, dump, locate, merge, reach, seeded, slim, triage, walk}

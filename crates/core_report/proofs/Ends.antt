@@ -28,7 +28,7 @@ use Rattle.core_report.proofs.Agreement.{outcome_class, settled, settled-other}
 use Rattle.core_report.proofs.Commands.{cause_own, no_cause, outcomes_agree}
 use Rattle.core_report.proofs.Processes.{slim_few}
 
--- the text is written, want of memory aside, unless the command comes to a cause of its own
+-- the text is written, out of memory aside, unless the command comes to a cause of its own
 abbrev Completes : Command → List (List ℕ) → ℕ → Type 0
 Completes command contents status = (status ≡ 0) ⊎ ((status ≡ 5) ⊎ EndsItself command contents status)
 

@@ -19,7 +19,7 @@ pub record Judged : Type 0 where
   pub name : List ℕ
   pub answer : Result Report CoreError
 
--- that is the report of a core of these bytes under the default configuration, or its cause, which isn't want of memory
+-- that is the report of a core of these bytes under the default configuration, or its cause, which isn't out of memory
 pub record IsJudgedRight (images : Pushed) (layouts : List Layout) (bytes : List ℕ)
     (answer : Result Report CoreError) : Type 0 where
   pub right : ReportIs bytes images layouts default_config (reported answer)
@@ -37,25 +37,31 @@ abbrev pub name_by : List ℕ → Result Report CoreError → List (List ℕ)
 name_by name (Ok report) = name ∷ []
 name_by name (Err error) = []
 
+-- the stacks of a core, compared; none of one that was refused
 abbrev pub stacks_by : Result Report CoreError → List (List (List Compared))
 stacks_by (Ok report) = compared_of report.traces.items ∷ []
 stacks_by (Err error) = []
 
+-- a core's name with its refusal, where it was refused
 abbrev pub refusal_by : List ℕ → Result Report CoreError → List (List ℕ × CoreError)
 refusal_by name (Ok report) = []
 refusal_by name (Err error) = (name, error) ∷ []
 
+-- the names of the cores that have a report
 abbrev pub names_in : List Judged → List (List ℕ)
 names_in cores = flat_map (λ c. name_by c.name c.answer) cores
 
+-- the stacks of the cores that have a report, compared
 abbrev pub stacks_in : List Judged → List (List (List Compared))
 stacks_in cores = flat_map (λ c. stacks_by c.answer) cores
 
+-- the names of the refused cores, each with its refusal
 abbrev pub refusals_in : List Judged → List (List ℕ × CoreError)
 refusals_in cores = flat_map (λ c. refusal_by c.name c.answer) cores
 
 -- ---- the text
 
+-- the line of a core in a group
 abbrev pub name_line : List ℕ → List ℕ
 name_line name = concat (codes "    " ∷ name ∷ codes "\n" ∷ [])
 
@@ -63,6 +69,7 @@ name_line name = concat (codes "    " ∷ name ∷ codes "\n" ∷ [])
 abbrev pub name_lines : List (List ℕ) → List ℕ → List ℕ
 name_lines names places = concat (map (λ place. name_line (get_or names place [])) places)
 
+-- the text of a group: its number, how many cores it has, and their names
 abbrev pub group_text : List (List ℕ) → ℕ → List ℕ → List ℕ
 group_text names number places =
     concat (codes "Group " ∷ decimal number ∷ codes ": " ∷ decimal (length places) ∷ codes "\n" ∷ [])
@@ -73,6 +80,7 @@ abbrev pub groups_text : List (List ℕ) → ℕ → List (List ℕ) → List �
 groups_text names number [] = []
 groups_text names number (places ∷ rest) = group_text names number places ++ groups_text names (number + 1) rest
 
+-- the line of a refused core
 abbrev pub refusal_line : List ℕ × CoreError → List ℕ
 refusal_line r = concat (codes "    " ∷ r.0 ∷ codes ": " ∷ []) ++ (concat (core_parts r.1) ++ codes "\n")
 

@@ -11,6 +11,7 @@ use Rattle.core_report.specs.declared.cause.Cause.TheVariants.{Core, Layouts, Me
 use Rattle.core_report.specs.declared.cause.Cause.TheVariants.{TooManyPieces, OutOfMemory}
 use Rattle.core_report.specs.Outcome.{cause_status}
 
+-- the words of an error of `reach`
 abbrev pub reach_parts : ReachError → List (List ℕ)
 reach_parts reach.ReachLimit = codes "more than 1048576 objects or 16777216 slots" ∷ []
 reach_parts reach.OutOfMemory = codes "out of memory" ∷ []
@@ -20,6 +21,7 @@ abbrev pub merge_parts : CoreMergeError → List (List ℕ)
 merge_parts merging.OutOfMemory = codes "out of memory" ∷ []
 merge_parts _ = codes "cannot merge" ∷ []
 
+-- the words of a cause
 abbrev pub cause_parts : Cause → List (List ℕ)
 cause_parts (Core error) = core_parts error
 cause_parts (Layouts error) = layout_parts error

@@ -21,9 +21,11 @@ use Rattle.core_texts.specs.Parts.{address_text}
 use Rattle.core_report.specs.declared.cause.Cause.{Cause}
 use Rattle.core_report.specs.declared.cause.Cause.TheVariants.{Core, TooManyPieces, OutOfMemory}
 
+-- an opened process of this core, these pieces and what was found
 abbrev pub IsOpenedWith : List ℕ → Dumped → Finding → Result Opened CoreError → Type 0
 IsOpenedWith bytes d f result = result ≡ Ok (record { core = bytes; pieces = d.pieces; finding = f })
 
+-- what opening a core has to answer, by what its memory says
 abbrev pub OpenedCore : List ℕ → Pushed → List Layout → Dumped → Result Opened CoreError → Type 0
 OpenedCore bytes images layouts d =
     Then (FindingIs (memory_in d) (machine_of bytes) d.maps images layouts) (IsOpenedWith bytes d)

@@ -93,6 +93,7 @@ abbrev pub shown_report : Dump → Report → List ℕ
 shown_report d r = if d.config.dump_json then report_json r.traces.items
     else report_text d.core r.signal r.process r.version r.traces.items
 
+-- the text of a report
 abbrev pub IsReported : Dump → Report → Outcome → Type 0
 IsReported d r outcome = outcome ≡ Ok (shown_report d r)
 
@@ -159,6 +160,7 @@ IsMergedIn index core images text s outcome =
     ((slice_get s.traces index ≡ None) × (outcome ≡ Err (MergeIndex index)))
     ⊎ ((thread : Trace) × (slice_get s.traces index ≡ Some thread) × IsMergedFrom core images text thread outcome)
 
+-- the outcome of `merge` over what the files hold
 abbrev pub IsMergedBy : AsksMerge → List ℕ → Pushed → List ℕ → List Layout → Outcome → Type 0
 IsMergedBy m core images text layouts outcome = OutcomeThen (λ error. Core error)
     (StackedIs core images layouts default_config) (IsMergedIn m.index core images text) outcome
@@ -185,6 +187,7 @@ OpensBy named _ _ = ⊥
 abbrev pub IsLocated : Opened → Outcome → Type 0
 IsLocated o outcome = outcome ≡ Ok (locate_text o.finding.version o.finding.addresses)
 
+-- the outcome of `locate` over what the files hold
 abbrev pub IsLocateOutcome : AsksLocate → List (List ℕ) → Outcome → Type 0
 IsLocateOutcome l contents outcome = OutcomeThen (λ cause. cause) (OpensBy l.images contents) IsLocated outcome
 
@@ -193,6 +196,7 @@ abbrev pub IsSlimmedFrom : ℕ → Opened → Outcome → Type 0
 IsSlimmedFrom level o outcome =
     OutcomeThen slim_cause (SlimmedSays o (level_asked level)) (λ bytes text. text ≡ Ok bytes) outcome
 
+-- the outcome of `slim` over what the files hold
 abbrev pub IsSlimOutcome : AsksSlim → List (List ℕ) → Outcome → Type 0
 IsSlimOutcome s contents outcome =
     OutcomeThen (λ cause. cause) (OpensBy s.images contents) (IsSlimmedFrom s.level) outcome
@@ -203,6 +207,7 @@ IsSampledAs false seed outcome = outcome ≡ Ok (sample_text seed (generated see
 IsSampledAs true seed outcome =
     IsCoreOf sample_layout (generated seed) (sample_core seed) × (outcome ≡ Ok (sample_core seed))
 
+-- the outcome of `sample`, which reads no file
 abbrev pub IsSampleOutcome : AsksSample → List (List ℕ) → Outcome → Type 0
 IsSampleOutcome s [] outcome = IsSampledAs s.core s.seed outcome
 IsSampleOutcome s _ outcome = ⊥
@@ -220,25 +225,30 @@ IsOutcome (seeded s) contents outcome = IsSampleOutcome s contents outcome
 
 -- ---- contents with which nothing is wrong
 
+-- no cause applies to these files under `walk`
 abbrev pub IsFaultlessWalk : Walk → List (List ℕ) → Type 0
 IsFaultlessWalk w [] = ⊥
 IsFaultlessWalk w (bytes ∷ rest) =
     (layouts : List Layout) × SourceSays w.layouts rest (Ok layouts) × IsWalkable bytes layouts w.version w.addresses
 
+-- no cause applies to these files under `dump`
 abbrev pub IsFaultlessDump : Dump → List (List ℕ) → Type 0
 IsFaultlessDump d (core ∷ text ∷ images) = (layouts : List Layout) × IsRightFor text (Ok layouts)
     × IsReadable core (images_read d.images images) layouts d.config
 IsFaultlessDump d _ = ⊥
 
+-- no cause applies to these files under `triage`
 abbrev pub IsFaultlessTriage : Triage → List (List ℕ) → Type 0
 IsFaultlessTriage t [] = ⊥
 IsFaultlessTriage t (text ∷ contents) = (layouts : List Layout) × IsRightFor text (Ok layouts)
 
+-- no cause of reading applies to these files under `reach`
 abbrev pub IsFaultlessReach : AsksReach → List (List ℕ) → Type 0
 IsFaultlessReach r (core ∷ text ∷ images) = (layouts : List Layout) × IsRightFor text (Ok layouts)
     × IsReadable core (images_read r.images images) layouts locals_asked
 IsFaultlessReach r _ = ⊥
 
+-- no cause of reading applies to these files under `merge`
 abbrev pub IsFaultlessMerge : AsksMerge → List (List ℕ) → Type 0
 IsFaultlessMerge m (core ∷ text ∷ rest) = (layouts : List Layout) × IsRightFor text (Ok layouts)
     × IsReadable core (images_read m.images rest) layouts default_config
@@ -250,6 +260,7 @@ IsFaultlessProcess named config (core ∷ text ∷ images) = (layouts : List Lay
     × IsReadable core (images_read named images) layouts config
 IsFaultlessProcess named config _ = ⊥
 
+-- no cause of reading applies to these files under a command
 abbrev pub IsFaultless : Command → List (List ℕ) → Type 0
 IsFaultless (walk w) contents = IsFaultlessWalk w contents
 IsFaultless (dump d) contents = IsFaultlessDump d contents
@@ -271,15 +282,17 @@ IsOwnCause _ = ⊥
 
 -- ---- statuses
 
+-- the status of an error of `reach`
 abbrev pub reach_status : ReachError → ℕ
 reach_status reaching.OutOfMemory = 5
 reach_status reaching.ReachLimit = 9
 
+-- the status of an error of `merge`
 abbrev pub merge_status : CoreMergeError → ℕ
 merge_status merging.OutOfMemory = 5
 merge_status _ = 7
 
--- want of memory has one status, wherever it came
+-- out of memory has one status, wherever it came
 abbrev pub cause_status : Cause → ℕ
 cause_status (Core error) = core_status error
 cause_status (Layouts error) = layouts_status error
@@ -290,6 +303,7 @@ cause_status (MergeIndex index) = 7
 cause_status (TooManyPieces count) = 8
 cause_status OutOfMemory = 5
 
+-- the status of an outcome
 abbrev pub outcome_status : Outcome → ℕ
 outcome_status outcome = status_by cause_status outcome
 

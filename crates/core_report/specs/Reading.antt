@@ -66,6 +66,7 @@ abbrev pub text_contents : Option (Vec ℕ Global) → List (List ℕ)
 text_contents None = []
 text_contents (Some text) = text.items ∷ []
 
+-- what the files of `walk` hold, in order
 abbrev pub walk_contents : WalkFiles → List (List ℕ)
 walk_contents files = files.core.items ∷ text_contents files.layouts
 

@@ -105,6 +105,7 @@ pub record HasJudged (old new : FilesSeen) (t : Triage) (before : List (List ℕ
   pub keeps : Keeps cores kept
   pub first : HasFirst old new (triage t) (before ++ contents)
 
+-- the cores were read and judged one after the other, or a read failed
 abbrev pub HasCores : FilesSeen → FilesSeen → Triage → List (List ℕ) → Pushed → List Layout
     → Result JudgedCores (Trouble Cause) → Type 0
 HasCores old new t before images layouts (Ok kept) = HasJudged old new t before images layouts kept

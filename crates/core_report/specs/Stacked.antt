@@ -27,12 +27,15 @@ pub record Stacked : Type 0 where
   pub layout : Layout
   pub traces : List Trace
 
+-- the stacks of a process, with its memory and layout
 abbrev pub IsStacked : Dumped → Finding → List Trace → Result Stacked CoreError → Type 0
 IsStacked d f traces result = result ≡ Ok (record { pieces = d.pieces; layout = f.layout; traces = traces })
 
+-- what reading the stacks has to answer, where the process was found
 abbrev pub StackedFinding : Dumped → Config → Finding → Result Stacked CoreError → Type 0
 StackedFinding d config f = Then (StacksSay (memory_in d) f config) (IsStacked d f)
 
+-- what reading the stacks of a core has to answer
 abbrev pub StackedCore : List ℕ → Pushed → List Layout → Config → Dumped → Result Stacked CoreError → Type 0
 StackedCore bytes images layouts config d =
     Then (FindingIs (memory_in d) (machine_of bytes) d.maps images layouts) (StackedFinding d config)
@@ -51,6 +54,7 @@ abbrev pub locals_in : Option (List LocalVariable) → List ℕ
 locals_in None = []
 locals_in (Some locals) = map (λ l. l.addr) locals
 
+-- the addresses of the locals of a thread's frames, in order
 abbrev pub roots_of : Trace → List ℕ
 roots_of thread = flat_map (λ f. locals_in f.locals) thread.frames
 
@@ -60,10 +64,12 @@ LeadsTo s thread answer = IsRightReach (object_at s.layout (byte_at s.pieces)) (
 
 -- ---- the text
 
+-- the mark of an object that can't be read whole
 abbrev pub broken_text : Option ObjectError → List ℕ
 broken_text None = []
 broken_text (Some error) = codes " ?"
 
+-- the line of an object that is reached
 abbrev pub object_line : ReachObject → List ℕ
 object_line o = concat (codes "    " ∷ address_text o.addr ∷ broken_text o.broken ∷ codes "\n" ∷ [])
 

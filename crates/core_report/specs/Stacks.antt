@@ -8,6 +8,7 @@ use Rattle.core_report.specs.declared.merge_command.Threads.{Threads}
 use Rattle.core_report.specs.declared.reach_command.Stacks.{Stacks}
 use Rattle.core_report.specs.Stacked.{Stacked}
 
+-- the stacks that were read, as contracts see them
 abbrev pub stacked : Stacks → Stacked
 stacked s = record {
   pieces = s.process.pieces;
@@ -15,10 +16,12 @@ stacked s = record {
   traces = map trace_of s.traces.items;
 }
 
+-- a result with the stacks that were read
 abbrev pub stacked_in : Result Stacks CoreError → Result Stacked CoreError
 stacked_in (Ok s) = Ok (stacked s)
 stacked_in (Err e) = Err e
 
+-- the locals of a frame, where they were asked for
 abbrev pub locals_of : Option (Vec LocalVariable Global) → Option (List LocalVariable)
 locals_of locals = option_map (λ (v : Vec LocalVariable Global). v.items) locals
 
@@ -30,6 +33,7 @@ threads_stacked t = record {
   traces = map trace_of t.traces.items;
 }
 
+-- a result with the stacks of threads
 abbrev pub threads_in : Result Threads CoreError → Result Stacked CoreError
 threads_in (Ok t) = Ok (threads_stacked t)
 threads_in (Err e) = Err e

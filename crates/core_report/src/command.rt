@@ -137,7 +137,7 @@ pub fn run<F: Files, S: Sink, E: Sink>(
     ensures headline { (d : Dump) → command_of (texts words.now) ≡ Some (dump d) → result ≡ 0
         → HasReported d (F.seen files.old).told (S.seen out.old) (S.seen out.new) }
 
-    // where the files tell, each cause has its status, want of memory aside; of too many pieces the next clause speaks
+    // where the files tell, each cause has its status, out of memory aside; of too many pieces the next clause speaks
     ensures only { (command : Asked) (contents : List (List ℕ)) (cause : Why)
         → TellsContents (command_of (texts words.now)) (F.seen files.old).told command contents
         → IsOutcome command contents (Err cause) → cause_status cause ≢ 5 → cause_status cause ≢ 8
@@ -155,7 +155,7 @@ pub fn run<F: Files, S: Sink, E: Sink>(
         → TellsContents (command_of (texts words.now)) (F.seen files.old).told (slim s) contents
         → HasFewReads s contents → result ≢ 8 }
 
-    // where nothing is wrong with what they tell, and no write fails, the text is written, want of memory aside, unless
+    // where nothing is wrong with what they tell, and no write fails, the text is written, out of memory aside, unless
     // the command comes to a cause of its own: of walks, reports and cores in groups there is none
     ensures complete { (command : Asked) (contents : List (List ℕ))
         → TellsContents (command_of (texts words.now)) (F.seen files.old).told command contents

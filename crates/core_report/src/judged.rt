@@ -44,7 +44,7 @@ impl<'a> JudgedCores<'a> {
     }
 
     /// Judges a core of these bytes, which are dropped: its report under the default configuration, or the cause why
-    /// it has none, is kept. The one error is want of memory.
+    /// it has none, is kept. The one error is out of memory.
     pub(crate) fn judge(
         &mut self,
         name: &'a [u8],

@@ -12,7 +12,7 @@ use Rattle.core_slim.proofs.Joining.{joined_once}
 counts : (ranges ps qs : List Span) → AreJoined ranges ps → AreJoined ranges qs → length ps ≡ length qs
 counts ranges ps qs one two = ap length (joined_once ranges ps qs one two)
 
--- a right answer is the one right answer, want of memory aside
+-- a right answer is the one right answer, out of memory aside
 pub slim_only : (core : List ℕ) (m : Memory) (ranges : List Span) (result : Result (List ℕ) SlimError)
     → IsSlimmed core m ranges result → IsSoleSlim core m ranges result
 slim_only core m ranges (Err OutOfMemory) is answer right kept = inr refl

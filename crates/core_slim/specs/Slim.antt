@@ -62,7 +62,7 @@ slim_core core m pieces =
     file_of (machine_of core) (slim_segments (contents_start (length pieces + 1)) (length notes) pieces)
     (flat_map (piece_bytes m) pieces ++ notes)
 
--- the slim core of some ranges, or that they have more pieces than a header can count beside the notes; want of memory
+-- the slim core of some ranges, or that they have more pieces than a header can count beside the notes; out of memory
 -- may always be answered
 abbrev pub IsSlimmed : List ℕ → Memory → List Span → Result (List ℕ) SlimError → Type 0
 IsSlimmed core m ranges (Ok bytes) =
@@ -71,7 +71,7 @@ IsSlimmed core m ranges (Err (TooManyPieces count)) =
     (pieces : List Span) × AreJoined ranges pieces × (65533 < length pieces) × (count ≡ length pieces)
 IsSlimmed core m ranges (Err OutOfMemory) = ⊤
 
--- a right answer is the answer, want of memory aside
+-- a right answer is the answer, out of memory aside
 abbrev pub IsSoleSlim : List ℕ → Memory → List Span → Result (List ℕ) SlimError → Type 0
 IsSoleSlim core m ranges result = (answer : Result (List ℕ) SlimError) → IsSlimmed core m ranges answer
     → ¬ (answer ≡ Err OutOfMemory) → IsUnless OutOfMemory answer result

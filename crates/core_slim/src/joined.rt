@@ -51,7 +51,7 @@ fn join(alloc: Global, first: Span, others: &[Span]) -> Result<Vec<Span>, AllocE
 }
 
 /// The pieces of some ranges: the longest intervals of addresses that all lie in some range, in ascending order.
-/// It takes the time of a sort of the ranges. The one error is want of memory.
+/// It takes the time of a sort of the ranges. The one error is out of memory.
 pub(crate) fn joined_pieces(alloc: Global, ranges: &[Span]) -> Result<Vec<Span>, AllocError>
     requires { All EndsInTime ranges.now }
     ensures { IfOk result (λ pieces. AreJoined ranges.now pieces.items) }

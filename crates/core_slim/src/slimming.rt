@@ -19,7 +19,7 @@ use std::alloc::{AllocError, Global};
 /// that of the notes.
 const MOST_PIECES: usize = 65533;
 
-/// The slim core of pieces that are wholly in memory. The one error is want of memory.
+/// The slim core of pieces that are wholly in memory. The one error is out of memory.
 fn slim_of(alloc: Global, dump: &BackedDump, pieces: &[Span]) -> Result<Vec<u8>, AllocError>
     requires held { All (HoldsSpan (byte_at (regions_of dump.now))) pieces.now }
     requires few { length pieces.now ≤ 65533 }
@@ -51,13 +51,13 @@ fn slim_of(alloc: Global, dump: &BackedDump, pieces: &[Span]) -> Result<Vec<u8>,
 /// What is read of it: the machine, the status records and the last process record of the core, and a memory that has
 /// a byte at exactly the addresses of the ranges, which is the byte of the dump's memory there.
 ///
-/// `TooManyPieces` comes exactly where the ranges have more than 65533 pieces, which it counts, want of memory aside;
+/// `TooManyPieces` comes exactly where the ranges have more than 65533 pieces, which it counts, out of memory aside;
 /// so never where there are no more than 65533 ranges.
-/// Else the one error is want of memory. It takes the time of a sort of the ranges, and each byte is copied once.
+/// Else the one error is out of memory. It takes the time of a sort of the ranges, and each byte is copied once.
 pub fn slim(alloc: Global, dump: &BackedDump, ranges: &[Span]) -> Result<Vec<u8>, SlimError>
     requires held { All (HoldsSpan (byte_at (regions_of dump.now))) ranges.now }
     ensures right { IsSlimmed dump.now.core (byte_at (regions_of dump.now)) ranges.now (items_of result) }
-    // what is right is the answer, want of memory aside
+    // what is right is the answer, out of memory aside
     ensures only { IsSoleSlim dump.now.core (byte_at (regions_of dump.now)) ranges.now (items_of result) }
     // there are no more pieces than ranges
     ensures few { (count : ℕ) → items_of result ≡ Err (TooManyPieces count) → count ≤ length ranges.now }

@@ -18,7 +18,7 @@ use std::alloc::{AllocError, Global};
 const READ_WRITE: u32 = 6;
 
 /// The segments of pieces whose bytes follow each other in a file from an offset on, and behind them the segment of
-/// so many bytes of notes. The one error is want of memory: no file is longer than 2^64 - 1 bytes.
+/// so many bytes of notes. The one error is out of memory: no file is longer than 2^64 - 1 bytes.
 pub(crate) fn slim_segments(
     alloc: Global,
     pieces: &[Span],

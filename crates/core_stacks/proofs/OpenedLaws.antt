@@ -24,7 +24,7 @@ module _ (bytes : List ℕ) (images : Pushed) (layouts : List Layout) where
   err_same : (e d : CoreError) → ◌≡◌ {A = Result Finding CoreError} (Err e) (Err d) → e ≡ d
   err_same e d h = cc
 
-  -- a cause that isn't want of memory
+  -- a cause that isn't out of memory
   found_err : (e : CoreError) → IsKept {T = Opened} (Err e) → IsUnopened bytes images layouts e → FindsProcess bytes images layouts (Err e)
   found_err e kept (inl same) = absurd (kept (ap (λ x. Err x) same))
   found_err e kept (inr h) = h

@@ -86,7 +86,7 @@ report_complete bytes images layouts config apart good e h kept =
         (unfaulted (reports.memory_in good.dumped) good.finding config good.found.first.is.is good.rest) d says (err_kept (Err e) d is kept)
     by (inr (traces, has, (r, tells, is))) = absurd (ok_not_err r e (sym is))
 
--- where the process was found, nothing else is asked for and no fault is met, what is left is want of memory
+-- where the process was found, nothing else is asked for and no fault is met, what is left is out of memory
 pub left_memory : (o : Opened) (config : Config) → AsksNoOther config → fault_on (opened_memory o) o.finding config ≡ None → (e : CoreError)
     → StacksSay (opened_memory o) o.finding config (Err e) → e ≡ core.OutOfMemory
 left_memory o config asks none e h =

@@ -7,7 +7,7 @@ use Rattle.py_process.specs.declared.core_error.CoreError.TheVariants as core
 use Rattle.py_process.proofs.Agreement.{Agree, err_is, err_kept, kept_or, ok_is, ok_kept, ok_not_err}
 use Rattle.core_stacks.specs.Sole.{IsSole, Settles}
 
--- the right answer is the one answer, want of memory aside
+-- the right answer is the one answer, out of memory aside
 pub sole_of : {T : Type 0} (R : Result T CoreError → Type 0) → Agree R → (result : Result T CoreError) → R result → IsSole R result
 sole_of R agree result right answer is kept =
     ⊎_elim (λ memory. inr memory) (λ other. inl (agree result answer right is other kept)) (kept_or result)

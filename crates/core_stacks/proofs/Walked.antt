@@ -159,7 +159,7 @@ module _ (bytes : List ℕ) (layouts : List Layout) (version : Version) (address
       (settles_err (LayoutSays layouts version) (WalkSays bytes addresses) (layout_agree layouts version (λ a b x y. absurd (none a x)))
       (core.UnsupportedVersion version) r (refl, none) is)
 
-  -- want of memory is always right
+  -- out of memory is always right
   pub memory_walk : (r : Result (List Trace) CoreError) → r ≡ Err core.OutOfMemory → Settles (Means bytes layouts version addresses) r
   memory_walk r is = record { right = inl (core.OutOfMemory, tt, is); only = λ answer h kept. inr is }
 

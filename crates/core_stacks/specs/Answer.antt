@@ -65,6 +65,7 @@ abbrev pub Means : List ℕ → List Layout → Version → Addresses → Result
 Means bytes layouts version addresses =
     Then (CoreFileSays bytes) (λ _. Then (LayoutSays layouts version) (WalkSays bytes addresses))
 
+-- a result with the traces that contracts see
 abbrev pub traced : {E : Type 0} → Result (Vec StackTrace) E → Result (List Trace) E
 traced (Ok v) = Ok (map trace_of v.items)
 traced (Err e) = Err e

@@ -31,6 +31,7 @@ pub record NamesNone (bytes : List ℕ) (layouts : List Layout) : Type 0 where
   pub none : (version : Version) → version_of_names maps ≡ Some version → (layout : Layout)
       → ¬ IsChosen layouts version layout
 
+-- what the names of mapped files say of the version: this one, or none
 abbrev pub NamesVersion : List ℕ → List Layout → Result (Option (Version × Layout)) CoreError → Type 0
 NamesVersion bytes layouts (Ok (Some found)) = NamesThis bytes layouts found.0 found.1
 NamesVersion bytes layouts (Ok None) = NamesNone bytes layouts

@@ -25,6 +25,7 @@ pub record Opened : Type 0 where
   pub pieces : List Region
   pub finding : Finding
 
+-- the memory of an opened process
 abbrev pub opened_memory : Opened → Memory
 opened_memory o = byte_at o.pieces
 
@@ -34,7 +35,7 @@ pub record IsOpened (bytes : List ℕ) (images : Pushed) (layouts : List Layout)
   pub memory : IsBackedMemory bytes images o.pieces
   pub finds : FindsProcess bytes images layouts (Ok o.finding)
 
--- the first cause why nothing is found; want of memory may always be answered
+-- the first cause why nothing is found; out of memory may always be answered
 abbrev pub IsUnopened : List ℕ → Pushed → List Layout → CoreError → Type 0
 IsUnopened bytes images layouts error = (error ≡ OutOfMemory) ⊎ FindsProcess bytes images layouts (Err error)
 

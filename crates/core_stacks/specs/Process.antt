@@ -25,6 +25,7 @@ pub record OpenedProcess : Type 0 where
   pub layout : Layout
   pub untold : Option CoreError
 
+-- an opened process of this core, these binaries, this version and this layout
 abbrev pub IsOpenedBy : Dumped → Known → Version → Layout → Result OpenedProcess CoreError → Type 0
 IsOpenedBy d k v l result =
     result ≡ Ok (record { dumped = d; known = k; version = v; layout = l; untold = None })

@@ -95,11 +95,13 @@ pub record Reached : Type 0 where
   pub trial : Option Trial
   pub finding : Option Finding
 
+-- how far the search in a core came: its memory, the trial of candidates, and what was found
 pub record IsReached (bytes : List ℕ) (images : Pushed) (layouts : List Layout) (r : Reached) : Type 0 where
   pub dumped : IsDumped bytes images r.dumped
   pub trial : IfSome r.trial (IsTrial (memory_in r.dumped) r.dumped.maps images layouts)
   pub finding : IfSome r.finding (IsFound (memory_in r.dumped) (machine_of bytes) r.dumped.maps images layouts)
 
+-- at most how many reads the search in a core takes
 abbrev pub reached_cost : Config → Reached → ℕ
 reached_cost c r = cost_of (trial_cost (in_maps r.dumped.maps) (memory_in r.dumped)) r.trial
     + cost_of (finding_cost c (memory_in r.dumped)) r.finding

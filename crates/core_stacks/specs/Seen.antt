@@ -19,13 +19,16 @@ use Rattle.core_stacks.specs.declared.found.Found.{Found}
 use Rattle.core_stacks.specs.declared.found.PythonBinaries.{PythonBinaries}
 use Rattle.core_stacks.specs.declared.programs.Programs.{Programs}
 
+-- the images of the program and of Python's library
 abbrev pub programs_now : Programs → programs.Programs
 programs_now p = record { program = p.program.now; library = option_copied p.library }
 
+-- a result with the images of the program and of Python's library
 abbrev pub programs_in : Result Programs CoreError → Result programs.Programs CoreError
 programs_in (Ok p) = Ok (programs_now p)
 programs_in (Err e) = Err e
 
+-- a result with what the binaries say
 abbrev pub known_in : {M : Type 0} → Result (PythonProcessInfo M) CoreError → Result Known CoreError
 known_in (Ok info) = Ok (known_of info)
 known_in (Err e) = Err e
@@ -51,9 +54,11 @@ abbrev pub needed_by : {T : Type 0} → Option CoreMapRange → T → T → T
 needed_by None program library = program
 needed_by (Some m) program library = library
 
+-- what was found of a process: version, layout and addresses
 abbrev pub finding_of : Found → Finding
 finding_of f = record { version = f.version; layout = f.layout; addresses = f.addresses }
 
+-- a result with what was found of a process
 abbrev pub finding_in : Result Found CoreError → Result Finding CoreError
 finding_in (Ok f) = Ok (finding_of f)
 finding_in (Err e) = Err e

@@ -23,6 +23,7 @@ abbrev pub refusal_of_core : CoreError → SlimmedError
 refusal_of_core core.OutOfMemory = OutOfMemory
 refusal_of_core error = Core error
 
+-- the refusal that an error of writing a slim core stands for
 abbrev pub refusal_of_slim : SlimError → SlimmedError
 refusal_of_slim (slim.TooManyPieces count) = TooManyPieces count
 refusal_of_slim slim.OutOfMemory = OutOfMemory
@@ -34,7 +35,7 @@ pub record IsSlimmedFor (o : Opened) (config : Config) (result : Result (List �
   pub footprint : IsFootprint (opened_memory o) o.finding config traces ranges
   pub is : IsSlimmed o.core (opened_memory o) ranges result
 
--- that, or the first cause why there are no stacks; want of memory may always be answered
+-- that, or the first cause why there are no stacks; out of memory may always be answered
 abbrev pub SlimmedSays : Opened → Config → Result (List ℕ) SlimmedError → Type 0
 SlimmedSays o config (Ok bytes) = IsSlimmedFor o config (Ok bytes)
 SlimmedSays o config (Err (Core error)) =
@@ -42,7 +43,7 @@ SlimmedSays o config (Err (Core error)) =
 SlimmedSays o config (Err (TooManyPieces count)) = IsSlimmedFor o config (Err (slim.TooManyPieces count))
 SlimmedSays o config (Err OutOfMemory) = ⊤
 
--- the first cause why there are no stacks is the answer, want of memory aside
+-- the first cause why there are no stacks is the answer, out of memory aside
 abbrev pub TellsCause : Opened → Config → Result (List ℕ) SlimmedError → Type 0
 TellsCause o config result = (error : CoreError) → error ≢ core.OutOfMemory
     → StacksSay (opened_memory o) o.finding config (Err error) → IsUnless OutOfMemory (Err (Core error)) result
@@ -51,7 +52,7 @@ TellsCause o config result = (error : CoreError) → error ≢ core.OutOfMemory
 abbrev pub IsSoleLayout : List Layout → Finding → Type 0
 IsSoleLayout layouts f = (other : Layout) → IsChosen layouts f.version other → other ≡ f.layout
 
--- the stacks over a memory, or want of memory
+-- the stacks over a memory, or out of memory
 abbrev pub HasStacksOrNone : Memory → Finding → Config → Result (List Trace) CoreError → Type 0
 HasStacksOrNone m f config (Ok traces) = HasStacks m f config traces
 HasStacksOrNone m f config (Err core.OutOfMemory) = ⊤

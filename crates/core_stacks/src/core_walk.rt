@@ -20,7 +20,7 @@ use std::alloc::Global;
 /// (`image_memory::CoreDump::new`); `UnsupportedVersion` where no layout covers the version; `Unreadable`,
 /// `FrameLimit`, `ChainLimit` and
 /// `ThreadLimit`, as `py_stacks::get_stack_traces` orders them: the lock's holder comes before the threads. Else
-/// it is want of memory.
+/// it is out of memory.
 pub fn walk(
     alloc: Global,
     bytes: Vec<u8>,
@@ -28,7 +28,7 @@ pub fn walk(
     version: &Version,
     addresses: &Addresses,
 ) -> Result<Vec<StackTrace>, CoreError>
-    // the answer is right, and what is right is the answer, want of memory aside
+    // the answer is right, and what is right is the answer, out of memory aside
     ensures { Settles (Means bytes.items layouts.now version.now addresses.now) (traced result) }
 {
     let core = CoreDump::new(alloc, bytes)?;

@@ -58,7 +58,7 @@ fn find_lock<M: ContainsAddr, P: ProcessMemory>(
 /// The version of a process, over a memory of it, by what is known of it, and the layout that covers that.
 ///
 /// The error is the first of these: `UnreadableVersion` and `NoVersion` (`py_process::get_python_version`);
-/// `UnsupportedVersion` where no layout covers the version. Else it is want of memory. At most 3 reads.
+/// `UnsupportedVersion` where no layout covers the version. Else it is out of memory. At most 3 reads.
 pub(crate) fn read_version<M: ContainsAddr, P: ProcessMemory>(
     alloc: Global,
     info: &PythonProcessInfo<M>,
@@ -134,7 +134,7 @@ pub(crate) fn find_process<M: ContainsAddr, P: ProcessMemory>(
 /// the other one may be missing or bad.
 ///
 /// The error is the first of these: `NoBinary`, where no executable map's file has a name; `NoImage` and `BadImage` of
-/// the needed image. Else it is want of memory.
+/// the needed image. Else it is out of memory.
 pub fn process_info(
     alloc: Global,
     core: &CoreDump,

@@ -19,7 +19,7 @@ pub(crate) struct Covered {
 
 /// The version that the names of a core's mapped files tell (`py_process::version_of_names`), and the layout that
 /// covers it, where one does: for a process of which nothing that is there tells its version. Its patch is not known,
-/// and is 0. The one error is want of memory.
+/// and is 0. The one error is out of memory.
 pub fn named_version(
     alloc: Global,
     core: &CoreDump,
@@ -51,7 +51,7 @@ fn is_untold(error: &CoreError) -> bool
 }
 
 /// The version that is told, with its layout; or else, where nothing that is there tells one, that of the names of the
-/// core's mapped files, where one layout covers it. Else the error is the one that is handed in, or want of memory.
+/// core's mapped files, where one layout covers it. Else the error is the one that is handed in, or out of memory.
 pub(crate) fn told_or_named(
     alloc: Global,
     core: &CoreDump,

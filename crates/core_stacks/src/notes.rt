@@ -59,7 +59,7 @@ fn process_in_notes(alloc: Global, core: &CoreDump) -> Result<Option<(i32, Text)
     }
 }
 
-/// What the notes of a core tell. The one error is want of memory.
+/// What the notes of a core tell. The one error is out of memory.
 pub(crate) fn notes_of(alloc: Global, core: &CoreDump) -> Result<Notes, AllocError>
     ensures { IfOk result (λ notes. NotesTell core.now notes.signal notes.process) }
 {

@@ -9,7 +9,7 @@ use py_layout::Version;
 use py_stacks::StackTrace;
 use std::alloc::{AllocError, Global};
 
-/// The text of traces of a core, under the name of its file, or as JSON. The one error is want of memory.
+/// The text of traces of a core, under the name of its file, or as JSON. The one error is out of memory.
 pub(crate) fn text_of_traces(
     alloc: Global,
     core: &CoreDump,

@@ -185,7 +185,7 @@ fn image_error(alloc: Global, images: &Images, map: &CoreMapRange) -> CoreError
 /// What is known of a process by its images, with a table of its maps' addresses.
 ///
 /// `NoImage` where the needed image, the library's where one is mapped and else the program's, is not handed in;
-/// `BadImage` where it says nothing. Else the one error is want of memory.
+/// `BadImage` where it says nothing. Else the one error is out of memory.
 pub(crate) fn read_images(
     alloc: Global,
     images: &Images,

@@ -115,7 +115,7 @@ impl PythonCoreDump {
         layouts: &Layouts,
     ) -> Result<PythonCoreDump, CoreError>
         ensures right { Opens core images.now layouts.now result }
-        // what is right is the answer, want of memory aside
+        // what is right is the answer, out of memory aside
         ensures only { IsSole (Opens core images.now layouts.now) result }
         // so of the errors of `get_stack` and `footprint` few are left
         ensures found { IfOk result IsFoundIn }
@@ -135,7 +135,7 @@ impl PythonCoreDump {
         layouts: &Layouts,
     ) -> Result<(PythonCoreDump, PythonBinaries), CoreError>
         ensures right { Opens core images.now layouts.now (opened_first result) }
-        // what is right is the answer, want of memory aside
+        // what is right is the answer, out of memory aside
         ensures only { IsSole (Opens core images.now layouts.now) (opened_first result) }
         ensures found { IfOk result (λ opened. IsFoundIn opened.0) }
         ensures binaries { IfOk result (λ opened. AreBinaries core images.now
@@ -147,7 +147,7 @@ impl PythonCoreDump {
     /// A core of a Python process of this version, whose interpreter and lock are at these addresses. Nothing is
     /// looked for in the core, and no image is read.
     ///
-    /// `UnsupportedVersion` exactly where no layout covers the version. Else the one error is want of memory.
+    /// `UnsupportedVersion` exactly where no layout covers the version. Else the one error is out of memory.
     pub fn with_addresses(
         alloc: Global,
         core: CoreDump,
@@ -215,7 +215,7 @@ impl PythonCoreDump {
     /// memory.
     pub fn get_stack(&self, config: &Config) -> Result<Vec<StackTrace>, CoreError>
         ensures right { StacksSay (opened_memory self.now) self.now.finding config.now (traces_in result) }
-        // what is right is the answer, want of memory aside
+        // what is right is the answer, out of memory aside
         ensures only { IsSole (StacksSay (opened_memory self.now) self.now.finding config.now) (traces_in result) }
         // the answer is right over every memory with the same bytes
         ensures equal { (m : Memory) → ((a : ℕ) → m a ≡ opened_memory self.now a)
@@ -235,7 +235,7 @@ impl PythonCoreDump {
     /// errors are those of `get_stack`.
     pub fn footprint(&self, config: &Config) -> Result<(Vec<StackTrace>, Vec<Span>), CoreError>
         ensures right { StacksSay (opened_memory self.now) self.now.finding config.now (traces_with result) }
-        // what is right is the answer, want of memory aside
+        // what is right is the answer, out of memory aside
         ensures only { IsSole (StacksSay (opened_memory self.now) self.now.finding config.now) (traces_with result) }
         ensures footprint { IfOk result (λ answer. IsFootprint (opened_memory self.now) self.now.finding config.now
             (map trace_of answer.0.items) answer.1.items) }
@@ -247,9 +247,9 @@ impl PythonCoreDump {
     /// The bytes of a core of this process that has what `footprint` lists of its memory alone: the slim core of these
     /// ranges (`core_slim::slim`), with all that the notes of this process's core say. `CoreDump::new` accepts it, and
     /// opened by `with_addresses` with the same layouts and with `version` and `addresses`, `get_stack` answers the
-    /// stacks of this process for the same `Config`, or want of memory, and nothing else.
+    /// stacks of this process for the same `Config`, or out of memory, and nothing else.
     ///
-    /// - `Core` exactly where `footprint` answers this error, and that is another one than want of memory.
+    /// - `Core` exactly where `footprint` answers this error, and that is another one than out of memory.
     /// - `TooManyPieces` exactly where the ranges have more than 65533 pieces: never where the stacks take no more
     ///   reads than that.
     /// - `OutOfMemory` where there was no memory left.

@@ -37,7 +37,7 @@ pub struct Loaded {
 /// Nothing of the process's memory is read.
 ///
 /// The error is `NotElf64`, `BadHeader`, `NoNotes` or `BadNote`, as `image_memory::CoreDump::new` has them. Else it is
-/// want of memory.
+/// out of memory.
 pub fn load(alloc: Global, bytes: Vec<u8>, images: &Images) -> Result<Loaded, CoreError>
     ensures core { IfOk result (λ loaded. IsCore loaded.dump.core) }
     ensures same { IfOk result (λ loaded. loaded.dump.core ≡ bytes.items) }
@@ -74,7 +74,7 @@ pub fn report_over<M: ContainsAddr, P: ProcessMemory>(
         (M.contains info.now.maps) config.now (P.seen process.old) (P.seen process.new)
         (λ m. Settles (AfterKnown core.now m (M.contains info.now.maps) layouts.now config.now (known_of info.now))
         (reported result)) }
-    // where the process is found, nothing else is asked for and no fault is met, the one error is want of memory
+    // where the process is found, nothing else is asked for and no fault is met, the one error is out of memory
     ensures complete { (finding : Finding)
         → AfterImages (byte_at (P.seen process.old).pieces) (machine_of core.now) (M.contains info.now.maps)
         layouts.now (known_of info.now) (Ok finding)
@@ -120,7 +120,7 @@ fn make_report(
 /// members that are skipped (`py_stacks::get_stack_over`).
 ///
 /// The error is the first of these: `NotElf64`, `BadHeader`, `NoNotes` and `BadNote` (`image_memory::CoreDump::new`);
-/// those of `PythonCoreDump::new`, in its order; those of `PythonCoreDump::get_stack`. Else it is want of memory.
+/// those of `PythonCoreDump::new`, in its order; those of `PythonCoreDump::get_stack`. Else it is out of memory.
 /// Of these no `ThreadLimit`, `FrameLimit` or `ChainLimit` comes, since the interpreter's chains are whole, and
 /// `Unreadable` names a range of the pointer to the lock, of its record or word, of its holder's record, or, where
 /// locals are asked for, of a kept frame's tuple of names, the word that names a variable, its name or its slot.
@@ -132,11 +132,11 @@ pub fn report(
     config: &Config,
 ) -> Result<Report, CoreError>
     ensures right { ReportIs bytes.items images.now layouts.now config.now (reported result) }
-    // what is right is the answer, want of memory aside
+    // what is right is the answer, out of memory aside
     ensures only { IsSole (ReportIs bytes.items images.now layouts.now config.now) (reported result) }
     // the threads are the whole chain of the first candidate that is an interpreter's, each with its whole chain
     ensures whole { IfOk result (λ report. IsRight bytes.items images.now layouts.now config.now (reported_of report)) }
-    // and what is right in all these fields is the report, want of memory aside
+    // and what is right in all these fields is the report, out of memory aside
     ensures full { (r : Reported) → AsksNoOther config.now → IsRight bytes.items images.now layouts.now config.now r
         → (reported result ≡ Ok r) ⊎ (reported result ≡ Err CoreError.OutOfMemory) }
     // no limit of threads or frames is a cause, and no missing range but of the lock, its holder and asked locals
@@ -164,7 +164,7 @@ pub fn report_counted<L: Ledger>(
     config: &Config,
     steps: &mut Steps<L>,
 ) -> Result<Report, CoreError>
-    // the answer is right, and what is right is the answer, want of memory aside
+    // the answer is right, and what is right is the answer, out of memory aside
     ensures settles { Settles (ReportIs bytes.items images.now layouts.now config.now) (reported result) }
     ensures complete { IsReadable bytes.items images.now layouts.now config.now
         → IfErr result (λ error. error ≡ CoreError.OutOfMemory) }

@@ -10,7 +10,7 @@ use thiserror::Error;
 /// Why there is no slim core of a Python process.
 #[derive(Debug, Drop, Error, PartialEq, Eq)]
 pub enum SlimmedError {
-    /// The stacks can't be read. It is never want of memory.
+    /// The stacks can't be read. It is never out of memory.
     #[error("{0}")]
     Core(CoreError),
     /// What was read for the stacks has this many pieces, which are more than 65533 (`core_slim::slim`).

@@ -55,6 +55,7 @@ locals_after before [] = []
 locals_after before (l ∷ rest) =
     heading_text before l.arg ++ (local_text l ++ locals_after (before ++ l ∷ []) rest)
 
+-- the lines of a frame's locals
 abbrev pub locals_text : List LocalVariable → List ℕ
 locals_text locals = locals_after [] locals
 
@@ -72,6 +73,7 @@ frame_line f = codes "    " ++ (encode_utf8_all f.name ++ (codes " ("
 abbrev pub frame_text : Frame → List ℕ
 frame_text f = frame_line f ++ shown_locals f.locals
 
+-- the lines of frames, each with its locals
 abbrev pub frames_text : List Frame → List ℕ
 frames_text frames = concat (map (λ f. frame_text f) frames)
 

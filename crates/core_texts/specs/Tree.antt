@@ -16,6 +16,7 @@ abbrev pub text_tree : Option (List ℕ) → Data
 text_tree (Some text) = string (encode_utf8_all text)
 text_tree None = null
 
+-- JSON of the system's id of a thread; null where it isn't told
 abbrev pub id_tree : Option ℕ → Data
 id_tree (Some id) = number (unsigned id)
 id_tree None = null
@@ -28,6 +29,7 @@ local_tree l = object (
     member (codes "name") (string (encode_utf8_all l.name)) (
     member (codes "repr") (text_tree l.repr) no_members))))
 
+-- JSON of a frame's locals
 abbrev pub locals_tree : List LocalVariable → Data
 locals_tree locals = array (items_of (map (λ l. local_tree l) locals))
 
@@ -36,6 +38,7 @@ abbrev pub shown_tree : Option (Vec LocalVariable Global) → Data
 shown_tree (Some locals) = locals_tree locals.items
 shown_tree None = null
 
+-- JSON of a frame
 abbrev pub frame_tree : Frame → Data
 frame_tree f = object (
     member (codes "filename") (string (encode_utf8_all f.filename)) (
@@ -47,6 +50,7 @@ frame_tree f = object (
     member (codes "name") (string (encode_utf8_all f.name)) (
     member (codes "short_filename") (text_tree f.short_filename) no_members))))))))
 
+-- JSON of frames, in order
 abbrev pub frames_tree : List Frame → Data
 frames_tree frames = array (items_of (map (λ f. frame_tree f) frames))
 
@@ -70,5 +74,6 @@ report_tree traces = array (items_of (map (λ t. trace_tree t) traces))
 abbrev pub pretty_text : Data → List ℕ
 pretty_text d = pretty (json_tokens (outline d))
 
+-- the JSON of stacks
 abbrev pub report_json : List StackTrace → List ℕ
 report_json traces = pretty_text (report_tree traces) ++ codes "\n"

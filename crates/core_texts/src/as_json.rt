@@ -14,7 +14,7 @@ use std::alloc::{AllocError, Global};
 /// order.
 ///
 /// The keys of an object are those of `py_stacks`' fields, in the order of their bytes, and a thread has besides
-/// `process_info`, which is null. What is None is null. The one error is want of memory.
+/// `process_info`, which is null. What is None is null. The one error is out of memory.
 pub fn report_json(alloc: Global, traces: &[StackTrace]) -> Result<String, AllocError>
     ensures { IfOk result (λ text. string_bytes text ≡ report_json traces.now) }
 {

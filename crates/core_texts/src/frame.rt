@@ -25,7 +25,7 @@ pub(crate) fn push_frames(text: &mut String, frames: &[Frame]) -> Result<(), All
     Ok(())
 }
 
-/// The lines of frames, and those of their locals, where they were asked for. The one error is want of memory.
+/// The lines of frames, and those of their locals, where they were asked for. The one error is out of memory.
 pub fn frames_text(alloc: Global, frames: &[Frame]) -> Result<String, AllocError>
     ensures { IfOk result (λ text. string_bytes text ≡ frames_text frames.now) }
 {

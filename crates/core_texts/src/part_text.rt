@@ -34,7 +34,7 @@ fn push_part(text: &mut Vec<u8>, part: &Part<'_>) -> Result<(), AllocError>
     }
 }
 
-/// Appends the bytes of the parts to a text, as `write_parts` writes them to a stream. The one error is want of memory.
+/// Appends the bytes of the parts to a text, as `write_parts` writes them to a stream. The one error is out of memory.
 pub fn push_parts(text: &mut Vec<u8>, parts: &[Part<'_>]) -> Result<(), AllocError>
     ensures { OnOk result (text.new.items ≡ text.old.items ++ said parts.now) }
 {

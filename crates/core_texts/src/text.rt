@@ -8,7 +8,7 @@ use py_fields::Version;
 use py_stacks::StackTrace;
 use std::alloc::{AllocError, Global};
 
-/// The version, and the threads from the last to the first. The one error is want of memory.
+/// The version, and the threads from the last to the first. The one error is out of memory.
 pub fn walk_text(
     alloc: Global,
     version: &Version,
@@ -23,7 +23,7 @@ pub fn walk_text(
 
 /// The signal that a core tells, beside the core's name, and the process, by its id and arguments, where it
 /// tells them; then what a walk prints. It need not be text, since the name is written as it is. The one error is
-/// want of memory.
+/// out of memory.
 pub fn report_text(
     alloc: Global,
     core: &[u8],

@@ -16,9 +16,11 @@ pub record Compared : Type 0 where
 
 -- ---- of traces
 
+-- what is compared of a frame: its name, its file and its line
 abbrev pub compared_frame : Frame → Compared
 compared_frame f = record { name = f.name; filename = f.filename; line = f.line }
 
+-- what is compared of a thread: its frames
 abbrev pub compared_thread : StackTrace → List Compared
 compared_thread t = map compared_frame t.frames.items
 
@@ -28,12 +30,15 @@ compared_of traces = map compared_thread traces
 
 -- ---- of a key
 
+-- what is compared of a frame, as a key has it
 abbrev pub frame_compared : FrameKey → Compared
 frame_compared k = record { name = k.name; filename = k.filename; line = k.line }
 
+-- what is compared of a thread, as a key has it
 abbrev pub thread_compared : Vec FrameKey Global → List Compared
 thread_compared frames = map frame_compared frames.items
 
+-- what is compared of a core, as a key has it
 abbrev pub compared_in : StackKey → List (List Compared)
 compared_in key = map thread_compared key.threads.items
 

@@ -12,7 +12,7 @@ use std::collections::BTreeMap;
 /// groups stand in the order of their first places. Each key's place stands in one group, and once; two places stand
 /// in one group exactly where what is compared of the keys there is equal; and no group is empty.
 ///
-/// It asks for fewer than 2^32 keys. The one error is want of memory. A map of the keys tells the group of each, so
+/// It asks for fewer than 2^32 keys. The one error is out of memory. A map of the keys tells the group of each, so
 /// that n keys take n log n comparisons.
 pub fn group(alloc: Global, keys: &[StackKey]) -> Result<Vec<Vec<u32>>, AllocError>
     requires few { length keys.now < 2 ^ 32 }

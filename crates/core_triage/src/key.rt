@@ -51,7 +51,7 @@ fn thread_key(alloc: Global, trace: &StackTrace) -> Result<Vec<FrameKey>, AllocE
     Ok(frames)
 }
 
-/// The key of a core's traces: the names and lines of their frames, copied. The one error is want of memory.
+/// The key of a core's traces: the names and lines of their frames, copied. The one error is out of memory.
 pub fn key_of(alloc: Global, traces: &[StackTrace]) -> Result<StackKey, AllocError>
     ensures { IfOk result (λ key. compared_in key ≡ compared_of traces.now) }
 {

@@ -18,13 +18,16 @@ abbrev pub is_base : State → (top base : ℕ) → Bool
 is_base s top base =
     nat_le top base && (base % 8 == 0 && (nat_le base 0xffff_ffff_ffff_ffef && nat_le s.least (base + 16)))
 
+-- a word, where it may be the frame pointer of this thread
 abbrev pub base_if : State → (top : ℕ) → Option ℕ → Option ℕ
 base_if s top None = None
 base_if s top (Some base) = if is_base s top base then Some base else None
 
+-- what rbp has, where it may be a frame pointer: not below this top of the stack
 abbrev pub base_in : State → (top : ℕ) → Option ℕ
 base_in s top = base_if s top (register_in s.registers 6)
 
+-- the frame pointer of x86-64 by the stack pointer; none where that is not known
 abbrev pub base_by : State → Option ℕ → Option ℕ
 base_by s None = None
 base_by s (Some top) = base_in s top
@@ -50,6 +53,7 @@ based_on s base word before = record {
   };
 }
 
+-- how a frame goes on, where its return address is code
 abbrev pub going_if : Bool → Going → Option Going
 going_if true going = Some going
 going_if false going = None
@@ -61,10 +65,12 @@ pub record IsBasedOn (mappings : List Mapping) (m : Memory) (s : State) (base wo
   pub in_code : IsInCode mappings word is_code
   pub is : going ≡ going_if is_code (based_on s base word (word_in m base))
 
+-- by the word behind the saved frame pointer; no guess where it is not in memory
 abbrev pub IsBasedBy : List Mapping → Memory → State → (base : ℕ) → Option ℕ → Option Going → Type 0
 IsBasedBy mappings m s base None going = going ≡ None
 IsBasedBy mappings m s base (Some word) going = IsBasedOn mappings m s base word going
 
+-- by the frame pointer, 8 bytes behind which the return address is; no guess where there is none
 abbrev pub IsBasedAt : List Mapping → Memory → State → Option ℕ → Option Going → Type 0
 IsBasedAt mappings m s None going = going ≡ None
 IsBasedAt mappings m s (Some base) going = IsBasedBy mappings m s base (word_in m ((base + 8) % 2 ^ 64)) going

@@ -3,6 +3,7 @@ use Rattle.std.specs.Prelude.{ℕ, ◌+◌, ◌-◌, List, [], ◌∷◌}
 use Rattle.piece_table.specs.declared.table.FileRange.{FileRange}
 use Rattle.core_unwind.specs.declared.place.Mapping.{Mapping}
 
+-- a mapping as a range of addresses, under its number
 abbrev pub range_of : (number : ℕ) → Mapping → FileRange
 range_of number m = record {
   range = record { start = m.start; len = m.end - m.start; offset = 0 };

@@ -49,6 +49,7 @@ long_in word =
     else if word % 16777216 == 0xc48148 then added (word / 16777216 % 4294967296) 2147483648 7
     else None
 
+-- the instruction of one byte, where it is one, else that of several bytes
 abbrev pub short_or : Option Instruction → (word : ℕ) → Option Instruction
 short_or (Some instruction) word = Some instruction
 short_or None word = long_in word
@@ -57,6 +58,7 @@ short_or None word = long_in word
 abbrev pub instruction_in : (word : ℕ) → Option Instruction
 instruction_in word = short_or (short_in (word % 256)) word
 
+-- the instruction at the front of eight bytes, where they can be read
 abbrev pub instruction_if : Option ℕ → Option Instruction
 instruction_if None = None
 instruction_if (Some word) = instruction_in word
@@ -67,9 +69,11 @@ instruction_at m pc = instruction_if (word_in m pc)
 
 -- ---- what they do
 
+-- the registers with this value in one of them; unchanged where it is none of the first 32
 abbrev pub put : List (Option ℕ) → (register : ℕ) → Option ℕ → List (Option ℕ)
 put registers register value = if nat_lt register 32 then slice_set registers register value else registers
 
+-- where a thread stands behind a `pop` from this top, by an instruction of so many bytes
 abbrev pub popped_behind : Memory → Standing → (register size top : ℕ) → Standing
 popped_behind m s register size top = record {
   pc = (s.pc + size) % 2 ^ 64;
@@ -77,10 +81,12 @@ popped_behind m s register size top = record {
   registers = put s.registers register (word_in m top);
 }
 
+-- where it stands behind `leave`: rbp is popped from where it points; nowhere if rbp is not known
 abbrev pub left_behind : Memory → Standing → Option ℕ → Option Standing
 left_behind m s None = None
 left_behind m s (Some base) = Some (popped_behind m s 6 1 base)
 
+-- where it stands behind `ret`: at the address on top of the stack; nowhere if that can't be read
 abbrev pub returned : Standing → Option ℕ → Option Standing
 returned s None = None
 returned s (Some pc) = Some (record { pc = pc; top = (s.top + 8) % 2 ^ 64; registers = s.registers })
@@ -96,20 +102,24 @@ behind m s (Pop register size) = Some (popped_behind m s register size s.top)
 behind m s Leave = left_behind m s (register_in s.registers 6)
 behind m s Return = returned s (word_in m s.top)
 
+-- whether an instruction is `ret`
 abbrev pub is_return : Instruction → Bool
 is_return Return = true
 is_return other = false
 
 -- ---- up to the return
 
+-- where a thread stands, if the last instruction was `ret`, else where it comes to by the next ones
 abbrev pub unless_return : Bool → Standing → (Standing → Option Standing) → Option Standing
 unless_return true s f = Some s
 unless_return false s f = f s
 
+-- the same, where it is known how the thread stands behind the instruction
 abbrev pub behind_then : Bool → Option Standing → (Standing → Option Standing) → Option Standing
 behind_then is_last None f = None
 behind_then is_last (Some s) f = unless_return is_last s f
 
+-- the same by an instruction; nowhere where it is none of an epilogue
 abbrev pub instruction_then : Memory → Standing → Option Instruction → (Standing → Option Standing) → Option Standing
 instruction_then m s None f = None
 instruction_then m s (Some i) f = behind_then (is_return i) (behind m s i) f
@@ -121,6 +131,7 @@ unwound (suc most) m s = instruction_then m s (instruction_at m s.pc) (unwound m
 
 -- ---- the caller
 
+-- how a frame goes on by its epilogue: the caller stands where the thread is behind the return
 abbrev pub returns_to : State → Standing → Going
 returns_to s after = record {
   cfa = after.top;
@@ -141,6 +152,7 @@ abbrev pub goes_on : State → Option Standing → Option Going
 goes_on s None = None
 goes_on s (Some after) = if after.pc == 0 || nat_lt after.top s.least then None else Some (returns_to s after)
 
+-- where an epilogue begins: at a state's address, with this top of the stack
 abbrev pub standing_at : State → Option ℕ → Option Standing
 standing_at s None = None
 standing_at s (Some top) = Some (record { pc = s.pc; top = top; registers = s.registers })
@@ -150,6 +162,7 @@ abbrev pub begun_at : Machine → State → Option Standing
 begun_at X86_64 s = standing_at s (stack_top X86_64 s)
 begun_at Aarch64 s = None
 
+-- how a frame goes on whose epilogue begins here; at most 16 instructions are followed
 abbrev pub epilogue_by : Memory → State → Option Standing → Option Going
 epilogue_by m s None = None
 epilogue_by m s (Some standing) = goes_on s (unwound 16 m standing)

@@ -13,6 +13,7 @@ use Rattle.frame_expressions.specs.Operations.{operation_in}
 use Rattle.core_unwind.specs.declared.words.Words.{Words}
 use Rattle.core_unwind.specs.Registers.{register_in}
 
+-- the word that was read, if it was
 abbrev pub known_word : Found ℕ → Option ℕ
 known_word (Ok word) = Some word
 known_word (Err fault) = None
@@ -25,10 +26,12 @@ word_in m address = known_word (word_at m address)
 abbrev pub loaded : Memory → (address size : ℕ) → Option ℕ
 loaded m address size = if size == 8 then word_in m address else None
 
+-- the word on top of a stack; none where the stack is empty
 abbrev pub top : List ℕ → Option ℕ
 top [] = None
 top (word ∷ stack) = Some word
 
+-- what the rest comes to over a stack, where the operation has a meaning
 abbrev pub stack_then : Option (List ℕ) → (List ℕ → Option ℕ) → Option ℕ
 stack_then None f = None
 stack_then (Some stack) f = f stack
@@ -59,6 +62,7 @@ evaluated registers m first bytes = followed 256 registers m bytes (begun first)
 
 -- ---- as it is read
 
+-- the first so many words, the last of them first
 abbrev pub words_from : List ℕ → (depth : ℕ) → List ℕ
 words_from words zero = []
 words_from words (suc depth) = slice_index words depth ∷ words_from words depth
@@ -67,14 +71,17 @@ words_from words (suc depth) = slice_index words depth ∷ words_from words dept
 abbrev pub stack_of : Words → List ℕ
 stack_of w = words_from w.words w.depth
 
+-- the stack of the words that are there
 abbrev pub words_of : Option Words → Option (List ℕ)
 words_of None = None
 words_of (Some w) = Some (stack_of w)
 
+-- a popped word, and the stack that is left
 abbrev pub popped : Option (ℕ × Words) → Option (ℕ × List ℕ)
 popped None = None
 popped (Some p) = Some (p.0, stack_of p.1)
 
+-- the word on top of a stack, and the stack below it
 abbrev pub first_word : List ℕ → Option (ℕ × List ℕ)
 first_word [] = None
 first_word (word ∷ stack) = Some (word, stack)

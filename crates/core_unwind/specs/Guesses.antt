@@ -12,6 +12,7 @@ use Rattle.core_unwind.specs.Expressions.{word_in}
 use Rattle.core_unwind.specs.Places.{IsSpot, Site}
 use Rattle.core_unwind.specs.Registers.{register_in, stack_pointer}
 
+-- the stack pointer of a thread, where it is known
 abbrev pub stack_top : Machine → State → Option ℕ
 stack_top machine s = register_in s.registers (stack_pointer machine)
 
@@ -25,6 +26,7 @@ abbrev pub top_behind : Machine → ℕ → ℕ
 top_behind X86_64 top = (top + 8) % 2 ^ 64
 top_behind Aarch64 top = top
 
+-- the caller's state at this return address, with the stack pointer behind the return; the rest as it was
 abbrev pub guessed_caller : Machine → State → (top word : ℕ) → State
 guessed_caller machine s top word = record {
   pc = word;
@@ -35,6 +37,7 @@ guessed_caller machine s top word = record {
   bytes = s.bytes;
 }
 
+-- whether an address stands in the code of a file
 abbrev pub is_site : Result Site End → Bool
 is_site (Ok site) = true
 is_site (Err end) = false
@@ -45,6 +48,7 @@ pub record IsInCode (mappings : List Mapping) (word : ℕ) (is_code : Bool) : Ty
   pub spot : IsSpot mappings (word - 1) answer
   pub is : is_code ≡ is_site answer
 
+-- the caller, where its address is code
 abbrev pub jump_if : Bool → State → Option State
 jump_if true caller = Some caller
 jump_if false caller = None
@@ -56,10 +60,12 @@ pub record IsJumpBy (mappings : List Mapping) (machine : Machine) (s : State) (t
   pub in_code : IsInCode mappings word is_code
   pub is : guess ≡ jump_if is_code (guessed_caller machine s top word)
 
+-- the guess by a return address; none where it is not known
 abbrev pub IsJumpOf : List Mapping → Machine → State → (top : ℕ) → Option ℕ → Option State → Type 0
 IsJumpOf mappings machine s top None guess = guess ≡ None
 IsJumpOf mappings machine s top (Some word) guess = IsJumpBy mappings machine s top word guess
 
+-- the guess by the stack pointer; none where it is not known
 abbrev pub IsJumpAt : List Mapping → Machine → Memory → State → Option ℕ → Option State → Type 0
 IsJumpAt mappings machine m s None guess = guess ≡ None
 IsJumpAt mappings machine m s (Some top) guess =

@@ -24,6 +24,7 @@ is_uncovered (NoTable at) = true
 is_uncovered (NoFile at) = true
 is_uncovered other = false
 
+-- whether a stack stops at a frame since no table covers its address
 abbrev pub stops_uncovered : Next → Bool
 stops_uncovered (Stops end) = is_uncovered end
 stops_uncovered (Caller s) = false
@@ -43,6 +44,7 @@ turn_by tabled (Some going) = record {
   next = Caller going.caller;
 }
 
+-- the first way to go on where there is one, else the second
 abbrev pub first_going : Option Going → Option Going → Option Going
 first_going (Some going) other = Some going
 first_going None other = other
@@ -51,6 +53,7 @@ first_going None other = other
 abbrev pub coded : Machine → Memory → State → Option Going
 coded machine m s = first_going (trampoline machine m s) (epilogue machine m s)
 
+-- a step by the frame pointer, where guesses are wanted; else as the tables have it
 abbrev pub IsGuessedIf : Bool → List Mapping → Machine → Memory → State → Turn → Turn → Type 0
 IsGuessedIf false mappings machine m s tabled turn = turn ≡ tabled
 IsGuessedIf true mappings machine m s tabled turn =
@@ -60,6 +63,7 @@ IsGuessedIf true mappings machine m s tabled turn =
 abbrev pub IsGuessed : List Mapping → Manner → Memory → State → Turn → Turn → Type 0
 IsGuessed mappings manner m s tabled turn = IsGuessedIf manner.guesses mappings manner.machine m s tabled turn
 
+-- a step by what the frame's own instructions say, where they say it, else by a guess
 abbrev pub IsUncoveredBy : List Mapping → Manner → Memory → State → Turn → Option Going → Turn → Type 0
 IsUncoveredBy mappings manner m s tabled (Some going) turn = turn ≡ turn_by tabled (Some going)
 IsUncoveredBy mappings manner m s tabled None turn = IsGuessed mappings manner m s tabled turn
@@ -69,6 +73,7 @@ abbrev pub IsUncovered : List Mapping → Manner → Memory → State → Turn �
 IsUncovered mappings manner m s tabled turn =
     IsUncoveredBy mappings manner m s tabled (coded manner.machine m s) turn
 
+-- a step whose address no table covers is by a mark; any other stays as the tables have it
 abbrev pub IsMarkedIf : Bool → List Mapping → Manner → Memory → State → Turn → Turn → Type 0
 IsMarkedIf false mappings manner m s tabled turn = turn ≡ tabled
 IsMarkedIf true mappings manner m s tabled turn = IsUncovered mappings manner m s tabled turn

@@ -16,6 +16,7 @@ use Rattle.core_unwind.specs.Marks.{is_uncovered}
 use Rattle.core_unwind.specs.Places.{holds}
 use Rattle.core_unwind.specs.Stacks.{Chain}
 
+-- whether a stack ends since no file that is at hand is mapped there
 abbrev pub is_no_file : End → Bool
 is_no_file (NoFile at) = true
 is_no_file other = false
@@ -25,10 +26,12 @@ abbrev pub jumped : List Mapping → Chain → Bool
 jumped mappings c =
     is_no_file c.end && (c.last.is_exact && is_none (find (holds c.last.pc) mappings))
 
+-- the caller of a jump to no code, as a guess
 abbrev pub jump_guess : Option State → Option Guess
 jump_guess None = None
 jump_guess (Some caller) = Some (record { mark = Jump; caller = caller })
 
+-- the caller by the frame pointer, as a guess
 abbrev pub base_guess : Option Going → Option Guess
 base_guess None = None
 base_guess (Some going) = Some (record { mark = going.mark; caller = going.caller })
@@ -39,6 +42,7 @@ IsBaseGuess false mappings machine m s guess = guess ≡ None
 IsBaseGuess true mappings machine m s guess =
     (going : Option Going) × IsBased mappings machine m s going × (guess ≡ base_guess going)
 
+-- by the return address where the thread had jumped to no code, else by the frame pointer
 abbrev pub IsGuessIf : Bool → List Mapping → Machine → Memory → Chain → Option Guess → Type 0
 IsGuessIf true mappings machine m c guess =
     (caller : Option State) × IsJump mappings machine m c.last caller × (guess ≡ jump_guess caller)

@@ -22,6 +22,7 @@ abbrev pub holds_code : ℕ → Segment → Bool
 holds_code place s =
     s.kind == load_kind && (s.flags % 2 == 1 && (nat_le s.offset place && nat_lt (place - s.offset) s.file_size))
 
+-- a number, where it fits in 64 bits
 abbrev pub word_or_none : ℕ → Option ℕ
 word_or_none n = if nat_lt n (2 ^ 64) then Some n else None
 
@@ -33,6 +34,7 @@ moved place s = word_or_none (s.addr + (place - s.offset))
 abbrev pub IsOpened : List ℕ → Option (List ℕ) → Type 0
 IsOpened file result = ((¬ IsAccepted file) × (result ≡ None)) ⊎ (IsAccepted file × (result ≡ Some file))
 
+-- the file's own address of a place: by the first segment of code that holds it, where the file is ELF
 abbrev pub address_in : Option (List ℕ) → ℕ → Option ℕ
 address_in None place = None
 address_in (Some file) place = option_and_then (moved place) (find (holds_code place) (segments_of file))
@@ -48,6 +50,7 @@ pub record Site : Type 0 where
   pub place : CodePlace
   pub bytes : List ℕ
 
+-- where an address stands, by the file's own address of it; without one no table covers it
 abbrev pub site_in : (at file : ℕ) → List ℕ → Option ℕ → Result Site End
 site_in at file bytes None = Err (NoTable at)
 site_in at file bytes (Some address) = Ok (record { place = record { file = file; address = address }; bytes = bytes })
@@ -58,10 +61,12 @@ IsSpotAt at file bytes None answer = answer ≡ Err (NoTable at)
 IsSpotAt at file bytes (Some place) answer =
     (address : Option ℕ) × IsCodeAddress bytes place address × (answer ≡ site_in at file bytes address)
 
+-- in a mapped file, at a place of it; where the file is not at hand, the stack ends
 abbrev pub IsSpotOf : (at file place : ℕ) → Option (List ℕ) → Result Site End → Type 0
 IsSpotOf at file place None answer = answer ≡ Err (NoFile at)
 IsSpotOf at file place (Some bytes) answer = IsSpotAt at file bytes (word_or_none place) answer
 
+-- in the mapping that holds the address; where none does, the stack ends
 abbrev pub IsSpotIn : ℕ → Option Mapping → Result Site End → Type 0
 IsSpotIn at None answer = answer ≡ Err (NoFile at)
 IsSpotIn at (Some m) answer = IsSpotOf at m.file (m.offset + (at - m.start)) (option_copied m.bytes) answer
@@ -72,9 +77,11 @@ IsSpot mappings at answer = IsSpotIn at (find (holds at) mappings) answer
 
 -- ---- as it is read
 
+-- a place that was found, with the bytes of its file
 abbrev pub site_of : Spot → Site
 site_of s = record { place = s.place; bytes = s.bytes.now }
 
+-- the answer of a look-up: a site, or how a stack ends there
 abbrev pub spot_of : Result Spot End → Result Site End
 spot_of (Ok spot) = Ok (site_of spot)
 spot_of (Err end) = Err end

@@ -10,10 +10,12 @@ use Rattle.frame_rows.specs.declared.row.Machine.TheVariants.{X86_64, Aarch64}
 abbrev pub register_in : List (Option ℕ) → ℕ → Option ℕ
 register_in registers register = slice_index_or registers register None
 
+-- the DWARF number of the stack pointer: rsp is 7, SP is 31
 abbrev pub stack_pointer : Machine → ℕ
 stack_pointer X86_64 = 7
 stack_pointer Aarch64 = 31
 
+-- whether a call leaves a register as it is: rbx, rbp and r12 to r15; x19 to x30
 abbrev pub is_kept : Machine → ℕ → Bool
 is_kept X86_64 register = register == 3 || (register == 6 || (nat_le 12 register && nat_lt register 16))
 is_kept Aarch64 register = nat_le 19 register && nat_lt register 31

@@ -53,6 +53,7 @@ AllAscend mappings = (at : ℕ) (site : Site) → IsSpot mappings at (Ok site) �
 
 -- ---- as it is read
 
+-- a stack as it was read, as a chain
 abbrev pub chain_of : NativeStack → Chain
 chain_of s = record { frames = s.frames.items; last = s.last; end = s.end }
 

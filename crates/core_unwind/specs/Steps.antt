@@ -44,6 +44,7 @@ pub record IsStepTo (code_bits : ℕ) (m : Memory) (s : State) (place : CodePlac
   pub is_row : IsEntryRow file entry place.address row
   pub is : IsStepWith code_bits m s place file entry row turn
 
+-- by an entry, unless a limit keeps its instructions from being read: then the stack is cut
 abbrev pub IsStepUnless : (code_bits : ℕ) → Memory → State → CodePlace → List ℕ → Entry → Option Limit → Turn → Type 0
 IsStepUnless code_bits m s place file entry (Some limit) turn = turn ≡ stopped s (Some place) (how.Cut limit)
 IsStepUnless code_bits m s place file entry None turn = IsStepTo code_bits m s place file entry turn
@@ -52,6 +53,7 @@ IsStepUnless code_bits m s place file entry None turn = IsStepTo code_bits m s p
 abbrev pub IsStepFrom : (code_bits : ℕ) → Memory → State → CodePlace → List ℕ → Entry → Turn → Type 0
 IsStepFrom code_bits m s place file entry turn = IsStepUnless code_bits m s place file entry (cut_by s entry) turn
 
+-- by what was found in a table: a flawed record and a missing entry end the stack
 abbrev pub IsStepOf : (code_bits : ℕ) → Memory → State → CodePlace → List ℕ → Result (Option Entry) RecordError → Turn
     → Type 0
 IsStepOf code_bits m s place file (Err error) turn = turn ≡ stopped s (Some place) (how.Refused (why.Record error))
@@ -65,6 +67,7 @@ pub record IsStepBy (code_bits : ℕ) (m : Memory) (s : State) (place : CodePlac
   pub finds : Finds file place.address found
   pub is : IsStepOf code_bits m s place file found turn
 
+-- by the table of a file, where it can be opened
 abbrev pub IsStepIf : (code_bits : ℕ) → Memory → State → CodePlace → Result (List ℕ) TableError → Turn → Type 0
 IsStepIf code_bits m s place (Err error) turn = turn ≡ stopped s (Some place) (table_end error (here s))
 IsStepIf code_bits m s place (Ok file) turn = IsStepBy code_bits m s place file turn
@@ -75,6 +78,7 @@ pub record IsStepIn (code_bits : ℕ) (m : Memory) (s : State) (site : Site) (tu
   pub opens : Opens site.bytes table
   pub is : IsStepIf code_bits m s site.place table turn
 
+-- by where the address stands; where it stands in no code of a file, the stack ends
 abbrev pub IsStepAt : (code_bits : ℕ) → Memory → State → Result Site End → Turn → Type 0
 IsStepAt code_bits m s (Err end) turn = turn ≡ stopped s None end
 IsStepAt code_bits m s (Ok site) turn = IsStepIn code_bits m s site turn

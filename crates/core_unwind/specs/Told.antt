@@ -31,6 +31,7 @@ slot_in register =
     else if register == 16 then Some 16
     else None
 
+-- which word of the registers has the register of a DWARF number, on either machine
 abbrev pub slot_of : Machine → ℕ → Option ℕ
 slot_of X86_64 register = slot_in register
 slot_of Aarch64 register = Some register
@@ -41,6 +42,7 @@ word_told status slot =
     if nat_lt 32 slot || nat_lt (length status) (112 + 8 * slot + 8) then None else Some (u64_in status (112 + 8 *
     slot))
 
+-- the word in this slot; none where the record has no slot for the register
 abbrev pub told_at : List ℕ → Option ℕ → Option ℕ
 told_at status None = None
 told_at status (Some slot) = word_told status slot
@@ -54,6 +56,7 @@ abbrev pub counter_slot : Machine → ℕ
 counter_slot X86_64 = 16
 counter_slot Aarch64 = 32
 
+-- the state at an address that the record tells, with the registers that it tells
 abbrev pub state_at : Machine → List ℕ → Option ℕ → Option State
 state_at machine status None = None
 state_at machine status (Some pc) = Some (record {

@@ -14,10 +14,12 @@ use Rattle.core_unwind.specs.Registers.{register_in, stack_pointer}
 use Rattle.core_unwind.specs.Guesses.{stack_top}
 use Rattle.core_unwind.specs.Values.{listed}
 
+-- whether a word was read and is this one
 abbrev pub is_word : Option ℕ → ℕ → Bool
 is_word None word = false
 is_word (Some found) word = found == word
 
+-- whether memory has this word of 8 bytes at an address
 abbrev pub has_word : Memory → (address word : ℕ) → Bool
 has_word m address word = is_word (word_in m address) word
 
@@ -50,10 +52,12 @@ place_in register =
     else if register == 16 then Some 168
     else None
 
+-- the same on either machine, in bytes; none for a register that was not saved
 abbrev pub place_of : Machine → ℕ → Option ℕ
 place_of X86_64 register = place_in register
 place_of Aarch64 register = if nat_lt register 32 then Some (312 + 8 * register) else None
 
+-- the word that was saved so many bytes behind the stack pointer
 abbrev pub saved_at : Memory → (top : ℕ) → Option ℕ → Option ℕ
 saved_at m top None = None
 saved_at m top (Some place) = word_in m ((top + place) % 2 ^ 64)
@@ -62,10 +66,12 @@ saved_at m top (Some place) = word_in m ((top + place) % 2 ^ 64)
 abbrev pub saved : Machine → Memory → (top register : ℕ) → Option ℕ
 saved machine m top register = saved_at m top (place_of machine register)
 
+-- how many bytes behind the stack pointer the address of the interrupted code was saved
 abbrev pub counter_place : Machine → ℕ
 counter_place X86_64 = 168
 counter_place Aarch64 = 568
 
+-- how a frame goes on whose CFA is known, by what a signal interrupted; not where its address is not known
 abbrev pub interrupted_at : State → (cfa : ℕ) → Option ℕ → List (Option ℕ) → Option Going
 interrupted_at s cfa None registers = None
 interrupted_at s cfa (Some pc) registers = Some (record {
@@ -82,6 +88,7 @@ interrupted_at s cfa (Some pc) registers = Some (record {
   };
 })
 
+-- the same by a CFA that may not be known: then the frame doesn't go on
 abbrev pub interrupted_if : State → Option ℕ → Option ℕ → List (Option ℕ) → Option Going
 interrupted_if s None pc registers = None
 interrupted_if s (Some cfa) pc registers = interrupted_at s cfa pc registers
@@ -90,10 +97,12 @@ interrupted_if s (Some cfa) pc registers = interrupted_at s cfa pc registers
 abbrev pub interrupted : Machine → State → Option ℕ → List (Option ℕ) → Option Going
 interrupted machine s pc registers = interrupted_if s (register_in registers (stack_pointer machine)) pc registers
 
+-- how a frame goes on by what the system saved at this stack pointer
 abbrev pub trampoline_at : Machine → Memory → State → (top : ℕ) → Option Going
 trampoline_at machine m s top =
     interrupted machine s (word_in m ((top + counter_place machine) % 2 ^ 64)) (listed (saved machine m top) 0 32)
 
+-- the same, where the code is a trampoline
 abbrev pub trampoline_if : Bool → Machine → Memory → State → (top : ℕ) → Option Going
 trampoline_if false machine m s top = None
 trampoline_if true machine m s top = trampoline_at machine m s top
@@ -102,6 +111,7 @@ trampoline_if true machine m s top = trampoline_at machine m s top
 abbrev pub signal_top : Machine → State → Option ℕ
 signal_top machine s = if s.signals == 0 then None else stack_top machine s
 
+-- how a frame goes on by a stack pointer that may not be known: it does where its code is a trampoline
 abbrev pub trampoline_by : Machine → Memory → State → Option ℕ → Option Going
 trampoline_by machine m s None = None
 trampoline_by machine m s (Some top) = trampoline_if (has_trampoline machine m s.pc) machine m s top

@@ -26,6 +26,7 @@ stopped s place end = record {
   next = Stops end;
 }
 
+-- a frame whose table has these rules
 abbrev pub frame_of : State → CodePlace → Rules → (cfa : Option ℕ) → Frame
 frame_of s place rules cfa = record {
   pc = s.pc;
@@ -38,9 +39,11 @@ frame_of s place rules cfa = record {
 
 -- ---- the return address
 
+-- the rule of the register that has the return address
 abbrev pub return_rule : Rules → Option Rule
 return_rule rules = rule_of rules.row rules.entry.return_register
 
+-- whether a rule says that a register's value is lost, `DW_CFA_undefined` (DWARF 5, section 6.4.1)
 abbrev pub is_undefined : Option Rule → Bool
 is_undefined (Some rule.Undefined) = true
 is_undefined other = false
@@ -49,6 +52,7 @@ is_undefined other = false
 abbrev pub is_first : Rules → Bool
 is_first rules = is_undefined (return_rule rules)
 
+-- how a stack ends by the rule of its return address: the saved word can't be read, or it is refused
 abbrev pub unknown_by : (cfa : ℕ) → Option Rule → End
 unknown_by cfa (Some (rule.Saved offset)) = Unreadable ((cfa + offset) % 2 ^ 64)
 unknown_by cfa other = Refused ReturnAddress
@@ -67,6 +71,7 @@ address_of row code_bits word = if row.signed then bit_and word code_bits else w
 abbrev pub is_above : State → Rules → (cfa : ℕ) → Bool
 is_above s rules cfa = rules.entry.is_signal || nat_le s.least cfa
 
+-- how many bytes the call frame instructions of an entry have, the initial ones and its own
 abbrev pub instruction_bytes : Entry → ℕ
 instruction_bytes e = (e.initial.end - e.initial.start) + (e.own.end - e.own.start)
 
@@ -86,6 +91,7 @@ abbrev pub next_at : State → Rules → (cfa : ℕ) → List (Option ℕ) → (
 next_at s rules cfa registers pc =
     if pc == 0 && not rules.entry.is_signal then Stops Whole else Caller (caller_of s rules cfa pc registers)
 
+-- what follows by the word in the return register, where its value is known
 abbrev pub next_by : (code_bits : ℕ) → State → Rules → (cfa : ℕ) → List (Option ℕ) → Option ℕ → Next
 next_by code_bits s rules cfa registers None = Stops (unknown_return rules cfa)
 next_by code_bits s rules cfa registers (Some word) =
@@ -96,12 +102,14 @@ abbrev pub next_of : (code_bits : ℕ) → State → Rules → (cfa : ℕ) → L
 next_of code_bits s rules cfa registers =
     next_by code_bits s rules cfa registers (register_in registers rules.entry.return_register)
 
+-- what follows a frame with this CFA; a CFA that is not known or does not grow ends the stack
 abbrev pub next_from : (code_bits : ℕ) → State → Rules → Memory → Option ℕ → Next
 next_from code_bits s rules m None = Stops (Refused Cfa)
 next_from code_bits s rules m (Some cfa) =
     if is_above s rules cfa then next_of code_bits s rules cfa (listed (value_of rules s.registers m cfa) 0 32)
     else Stops NotAbove
 
+-- what follows a frame by its rules; a function without a caller ends the stack
 abbrev pub next_in : (code_bits : ℕ) → State → Rules → Memory → Option ℕ → Next
 next_in code_bits s rules m cfa = if is_first rules then Stops Whole else next_from code_bits s rules m cfa
 

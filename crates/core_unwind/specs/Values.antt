@@ -13,6 +13,7 @@ use Rattle.core_unwind.specs.declared.value.Rules.{Rules}
 use Rattle.core_unwind.specs.Expressions.{evaluated, word_in}
 use Rattle.core_unwind.specs.Registers.{kept, register_in}
 
+-- what an expression comes to, where its bytes are in the table
 abbrev pub evaluated_if : List (Option ℕ) → Memory → Option ℕ → Option (List ℕ) → Option ℕ
 evaluated_if registers m first None = None
 evaluated_if registers m first (Some bytes) = evaluated registers m first bytes
@@ -27,6 +28,7 @@ abbrev pub moved_by : ℕ → Option ℕ → Option ℕ
 moved_by offset None = None
 moved_by offset (Some word) = Some ((word + offset) % 2 ^ 64)
 
+-- the CFA by its rule: a register and an offset, or an expression; none without a rule
 abbrev pub cfa_by : Rules → List (Option ℕ) → Memory → Option Cfa → Option ℕ
 cfa_by rules registers m None = None
 cfa_by rules registers m (Some (Based register offset)) = moved_by offset (register_in registers register)
@@ -36,6 +38,7 @@ cfa_by rules registers m (Some (Said start end)) = expressed rules registers m N
 abbrev pub cfa_of : Rules → List (Option ℕ) → Memory → Option ℕ
 cfa_of rules registers m = cfa_by rules registers m rules.row.cfa
 
+-- the word at an address that may not be known
 abbrev pub word_if : Memory → Option ℕ → Option ℕ
 word_if m None = None
 word_if m (Some address) = word_in m address
@@ -48,6 +51,7 @@ saved_at rules registers m cfa start end = word_if m (expressed rules registers 
 abbrev pub rule_of : Row → ℕ → Option Rule
 rule_of row register = if nat_lt register 32 then rule_at row register else None
 
+-- what the caller had in a register, by its rule; without one, as the psABI has it
 abbrev pub value_by : Rules → List (Option ℕ) → Memory → (cfa register : ℕ) → Option Rule → Option ℕ
 value_by rules registers m cfa register None = kept rules.entry.convention.machine registers cfa register
 value_by rules registers m cfa register (Some Undefined) = None

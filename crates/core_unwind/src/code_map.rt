@@ -61,7 +61,7 @@ fn ranges_of(alloc: Global, mappings: &[Mapping<'_>]) -> Result<Vec<FileRange>, 
 }
 
 impl<'a> CodeMap<'a> {
-    /// These mappings. The one error is want of memory, as which more than 2^32 - 1 pieces count into which they cut
+    /// These mappings. The one error is out of memory, as which more than 2^32 - 1 pieces count into which they cut
     /// the addresses.
     pub fn of(alloc: Global, mappings: Vec<Mapping<'a>>) -> Result<CodeMap<'a>, AllocError>
         ensures { IfOk result (λ map. map ≡ mappings.entry.items) }

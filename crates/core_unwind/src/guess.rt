@@ -180,7 +180,7 @@ fn read_base_guess<P: ProcessMemory>(
 /// Where a stack ends since no table says how it goes on, who may have called: where the thread had jumped to no code,
 /// as by a call of a null pointer, the state behind that call, if one was the last thing that the thread did; else what
 /// the frame pointer points to. The caller's code is that of a file at hand. It is a guess: nothing says that there was
-/// such a call, or that the code keeps a frame pointer. At most two reads; the one error is want of memory.
+/// such a call, or that the code keeps a frame pointer. At most two reads; the one error is out of memory.
 pub fn read_guess<P: ProcessMemory>(
     process: &mut P,
     mappings: &CodeMap<'_>,

@@ -70,7 +70,7 @@ fn follow<P: ProcessMemory>(
 
 /// The whole stack of a thread from a state on, at most `limit` frames of it: each frame is one step of the one
 /// before, and how the stack ends. There is one such stack alone, where the tables of the files ascend, and it is the
-/// answer. Where no frame has a mark it is a stack by tables alone. The one error is want of memory. At most 8549 reads
+/// answer. Where no frame has a mark it is a stack by tables alone. The one error is out of memory. At most 8549 reads
 /// for each frame.
 pub fn read_stack<P: ProcessMemory>(
     alloc: Global,

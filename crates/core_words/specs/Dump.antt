@@ -38,6 +38,7 @@ images_rule = record (new_rule (codes "images")) {
   action = Some Append;
 }
 
+-- the arguments of `dump`, as clap takes them
 abbrev pub dump_app : App
 dump_app = with_rule (with_rule (with_rule (with_rule (with_rule (with_rule (with_rule (with_rule
     (new_app (codes "dump")) core_rule) layouts_rule) locals_rule) (flag_rule (codes "json") (Some 106)))
@@ -54,11 +55,13 @@ rows_without (kind ∷ kinds) rows = None
 unfoldable pub rows_taken : App → List Text → Option (List Row)
 rows_taken app words = rows_without (fault_of app words) (matches_of app words)
 
+-- what clap takes of the words of `dump`
 unfoldable pub taken_rows : List Text → Option (List Row)
 taken_rows words = rows_taken dump_app words
 
 -- ---- what they ask for
 
+-- whether a character is `=`
 abbrev pub is_equals : ℕ → Bool
 is_equals c = nat_eq c 61
 
@@ -66,6 +69,7 @@ is_equals c = nat_eq c 61
 abbrev pub is_image : List ℕ → Bool
 is_image word = nat_lt (position_or_len is_equals word) (length word)
 
+-- an image's path and the name of its file, before and behind the first `=`
 abbrev pub image_of : List ℕ → List ℕ × List ℕ
 image_of word = (before_first is_equals word, after_first is_equals word)
 
@@ -89,6 +93,7 @@ is_set name rows = option_map_or (λ value. bytes_eq value (codes "true")) (firs
 abbrev pub option_value_of : List ℕ → List Row → List ℕ
 option_value_of name rows = unwrap_or (first_of name rows) []
 
+-- what the flags of `dump` ask for
 abbrev pub config_of : List Row → Config
 config_of rows = record default_config {
   native = is_set (codes "native") rows;
@@ -105,6 +110,7 @@ pub record Dump : Type 0 where
   pub layouts : List ℕ
   pub images : List (List ℕ × List ℕ)
 
+-- the command that some arguments of `dump` ask for
 abbrev pub dump_by : List Row → List (List ℕ × List ℕ) → Dump
 dump_by rows images = record {
   config = config_of rows;
@@ -121,6 +127,7 @@ dump_found rows = option_map (λ images. dump_by rows images) (images_of (image_
 abbrev pub is_dump_name : List ℕ → Bool
 is_dump_name name = nat_lt 0 (length name) && starts_with nat_eq (codes "dump") name
 
+-- whether the first word is `dump`
 abbrev pub is_dump : List (List ℕ) → Bool
 is_dump [] = false
 is_dump (name ∷ words) = is_dump_name name

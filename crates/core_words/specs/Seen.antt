@@ -19,13 +19,16 @@ use Rattle.core_words.specs.declared.reach.ReachWords.{ReachWords}
 use Rattle.core_words.specs.declared.sample.SampleWords.{SampleWords}
 use Rattle.core_words.specs.declared.slim.SlimWords.{SlimWords}
 
+-- the version of three numbers
 abbrev pub asked_version : Release → Version
 asked_version r = release r.major r.minor r.patch
 
+-- the layout file that is asked for, or the sample
 abbrev pub asked_source : LayoutSource → words.LayoutSource
 asked_source Sample = words.sample
 asked_source (File name) = words.file name.now
 
+-- what the arguments of `walk` ask for
 abbrev pub asked_walk : WalkWords → words.Walk
 asked_walk w = record {
   core = w.core.now;
@@ -34,15 +37,19 @@ asked_walk w = record {
   addresses = w.addresses;
 }
 
+-- what the arguments of `dump` ask for
 abbrev pub asked_dump : DumpWords → Dump
 asked_dump d = record { config = d.config; core = d.core; layouts = d.layouts; images = d.images.items }
 
+-- what the arguments of `triage` ask for
 abbrev pub asked_triage : TriageWords → words.Triage
 asked_triage t = record { layouts = t.layouts.now; cores = words.texts t.cores.now; images = t.images.items }
 
+-- what the arguments of `reach` ask for
 abbrev pub asked_reach : ReachWords → words.Reach
 asked_reach r = record { core = r.core.now; layouts = r.layouts.now; index = r.index; images = r.images.items }
 
+-- what the arguments of `merge` ask for
 abbrev pub asked_merge : MergeWords → words.Merge
 asked_merge m = record {
   core = m.core.now;
@@ -52,15 +59,19 @@ asked_merge m = record {
   images = m.images.items;
 }
 
+-- what the arguments of `locate` ask for
 abbrev pub asked_locate : LocateWords → words.Locate
 asked_locate l = record { core = l.core.now; layouts = l.layouts.now; images = l.images.items }
 
+-- what the arguments of `slim` ask for
 abbrev pub asked_slim : SlimWords → words.Slim
 asked_slim s = record { core = s.core.now; layouts = s.layouts.now; level = s.level; images = s.images.items }
 
+-- what the arguments of `sample` ask for
 abbrev pub asked_sample : SampleWords → words.Sample
 asked_sample s = record { seed = s.seed; core = s.core }
 
+-- what the arguments ask for
 abbrev pub asked_command : Command → words.Command
 asked_command (Walk w) = words.walk (asked_walk w)
 asked_command (Dumped d) = words.dump (asked_dump d)

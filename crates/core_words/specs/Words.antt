@@ -16,6 +16,7 @@ abbrev pub is_numeral : ℕ → ℕ → List ℕ → Bool
 is_numeral radix most ds = nat_lt 0 (length ds) && (nat_le (length ds) most
     && (list_all (λ c. nat_lt (digit_value c) radix) ds && nat_lt (digits_value radix ds) (2 ^ 64)))
 
+-- the number of digits in a radix, where they are such and below a bound
 abbrev pub digits_in : ℕ → ℕ → List ℕ → Option ℕ
 digits_in radix most ds = if is_numeral radix most ds then Some (digits_value radix ds) else None
 
@@ -23,6 +24,7 @@ digits_in radix most ds = if is_numeral radix most ds then Some (digits_value ra
 abbrev pub word_number : List ℕ → Option ℕ
 word_number word = if starts_with nat_eq word (codes "0x") then digits_in 16 16 (drop 2 word) else digits_in 10 20 word
 
+-- the version of three numbers, where all three are there
 abbrev pub release_by : Option ℕ → Option ℕ → Option ℕ → Option Version
 release_by (Some major) (Some minor) (Some patch) = Some (release major minor patch)
 release_by _ _ _ = None
@@ -43,6 +45,7 @@ pub data LayoutSource : Type 0 where
   sample : LayoutSource
   file : List ℕ → LayoutSource
 
+-- the layout file of a word; `sample` is the sample
 abbrev pub source_of : List ℕ → LayoutSource
 source_of word = if bytes_eq word (codes "sample") then sample else file word
 
@@ -132,6 +135,7 @@ abbrev pub triage_words : List (List ℕ) → Option Triage
 triage_words [] = None
 triage_words (layouts ∷ words) = triage_by layouts (position_or_len is_image words) words
 
+-- the arguments of `reach`, where its index is a number and each image a path and a file
 abbrev pub reach_by : List ℕ → List ℕ → Option ℕ → List (List ℕ) → Option Reach
 reach_by core layouts None words = None
 reach_by core layouts (Some index) words =
@@ -142,6 +146,7 @@ abbrev pub reach_words : List (List ℕ) → Option Reach
 reach_words (core ∷ layouts ∷ index ∷ words) = reach_by core layouts (word_number index) words
 reach_words _ = None
 
+-- the arguments of `merge`, where its index is a number and each image a path and a file
 abbrev pub merge_by : List ℕ → List ℕ → Option ℕ → List ℕ → List (List ℕ) → Option Merge
 merge_by core layouts None addresses words = None
 merge_by core layouts (Some index) addresses words = option_map (λ images. record {
@@ -164,6 +169,7 @@ locate_words (core ∷ layouts ∷ words) =
     option_map (λ images. record { core = core; layouts = layouts; images = images }) (images_of words)
 locate_words _ = None
 
+-- the arguments of `slim`, where its level is a number and each image a path and a file
 abbrev pub slim_by : List ℕ → List ℕ → Option ℕ → List (List ℕ) → Option Slim
 slim_by core layouts None words = None
 slim_by core layouts (Some level) words =
@@ -174,6 +180,7 @@ abbrev pub slim_words : List (List ℕ) → Option Slim
 slim_words (core ∷ layouts ∷ level ∷ words) = slim_by core layouts (word_number level) words
 slim_words _ = None
 
+-- the arguments of `sample`, where the seed is a number
 abbrev pub sample_by : List ℕ → Bool → Option Sample
 sample_by seed core = option_map (λ n. record { seed = n; core = core }) (word_number seed)
 

@@ -42,10 +42,12 @@ abbrev pub held_of : Wants → Option HeldRecord → Option Held
 held_of wants None = None
 held_of wants (Some at) = Some (record { size = at.size; held = at.held; wants = wants })
 
+-- an object that holds a future, where it is described (`FutureIter`)
 abbrev pub carried_of : Option CarrierRecord → Option Held
 carried_of None = None
 carried_of (Some at) = Some (record { size = at.size; held = at.held; wants = Future })
 
+-- the objects that stand between a coroutine and what it awaits, as far as they are described
 abbrev pub holders_of : Records → AwaitTypes → Holders
 holders_of r types = record {
   coroutine_wrapper = held_of (Class types.coroutine) r.coroutines.coroutine_wrapper;
@@ -55,6 +57,7 @@ holders_of r types = record {
   future_iter = carried_of r.tasks.future_iter;
 }
 
+-- where an object names its class, and a class has its name, flags and size (`PyTypeObject`)
 abbrev pub class_of : Layout → KlassRecord → ClassPlaces
 class_of l klass = record {
   klass = l.object.klass;
@@ -75,22 +78,27 @@ yield_from_of l (Some at) (Some names) = Some (record {
   least = 0;
 })
 
+-- the instruction of a frame that awaits: `RESUME` where that is described, else `YIELD_FROM`
 abbrev pub code_by : Layout → Option ResumeRecord → Option YieldFromRecord → Option CodeNamesRecord → Option CodePlaces
 code_by l None yield_from names = yield_from_of l yield_from names
 code_by l (Some at) yield_from names =
     Some (record { bytecode = 0; start = 0; first = at.first; second = at.second; least = 2 })
 
+-- the same by the records of a version
 abbrev pub code_of : Layout → Records → Option CodePlaces
 code_of l r = code_by l r.stacks.resume r.stacks.yield_from r.frames.code_names
 
+-- the state of a frame that awaits (`FRAME_SUSPENDED_YIELD_FROM`), where a version has it
 abbrev pub awaiting_of : Option AwaitingStateRecord → Option ℕ
 awaiting_of None = None
 awaiting_of (Some at) = Some at.state
 
+-- where a coroutine has the byte that says whether it runs (`gi_running`), where a version describes it
 abbrev pub running_of : Option GeneratorRunningRecord → Option ℕ
 running_of None = None
 running_of (Some at) = Some at.running
 
+-- the numbers of a frame's states, by the records of a version
 abbrev pub states_of : StatesRecord → Option AwaitingStateRecord → States
 states_of s awaiting = record {
   created = s.created;
@@ -103,9 +111,11 @@ states_of s awaiting = record {
 unfoldable pub covering : ℕ → ℕ → ℕ
 covering size place = if nat_lt place size || nat_lt 65534 place then size else place + 1
 
+-- a stack that is told by its bottom, its depth and the frame's state (`f_valuestack`, `f_stackdepth`, `f_state`)
 abbrev pub depth_stack : StackDepthRecord → States → ApartStack
 depth_stack at states = Depth at.bottom at.depth at.state states
 
+-- such a stack and how many bytes of the frame object are read, where it is described
 abbrev pub depth_of : ℕ → Option StackDepthRecord → Option StatesRecord → Option AwaitingStateRecord → Option StackRead
 depth_of size None states awaiting = None
 depth_of size (Some at) None awaiting = None
@@ -118,9 +128,11 @@ abbrev pub apart_stack_by : ℕ → Option StackPointerRecord → Option StackDe
 apart_stack_by size None depth states awaiting = depth_of size depth states awaiting
 apart_stack_by size (Some at) depth states awaiting = Some (record { stack = Pointer at.top; size = size })
 
+-- how a frame object tells its stack and how many bytes are read, by the records of a version
 abbrev pub apart_stack_of : Layout → StackRecords → Option StackRead
 apart_stack_of l s = apart_stack_by l.frame.size s.stack_pointer s.stack_depth s.states s.awaiting_state
 
+-- coroutines whose frame is an object of its own, where all that they need is described
 abbrev pub apart_by : Layout → Option GeneratorRecord → Option GeneratorFrameRecord → Option StackRead → Option ℕ
     → Option ApartPlaces
 apart_by l None frame stack running = None
@@ -156,14 +168,17 @@ inside_with l generator inside (Some count) (Some states) awaiting = Some (recor
   stack = l.frame.locals;
 })
 
+-- how coroutines stand in memory: with their frame inside, where its places are described
 abbrev pub inside_if : Option InsidePlaces → Option Family
 inside_if None = None
 inside_if (Some places) = Some (Inside places)
 
+-- how coroutines stand in memory: with a frame object, where its places are described
 abbrev pub apart_if : Option ApartPlaces → Option Family
 apart_if None = None
 apart_if (Some places) = Some (Apart places)
 
+-- coroutines with their frame inside, by the records of a version
 abbrev pub inside_of : Layout → Option GeneratorRecord → GeneratorInsideRecord → StackRecords → Option Family
 inside_of l None inside s = None
 inside_of l (Some generator) inside s =
@@ -174,9 +189,11 @@ abbrev pub family_by : Layout → Records → Option GeneratorInsideRecord → O
 family_by l r None = apart_if (apart_of l r)
 family_by l r (Some inside) = inside_of l r.coroutines.generator inside r.stacks
 
+-- how coroutines stand in memory, by the records of a version
 abbrev pub family_of : Layout → Records → Option Family
 family_of l r = family_by l r r.coroutines.generator_inside
 
+-- where the parts of coroutines stand, where classes, code and frames are described
 abbrev pub places_by : Layout → Records → AwaitTypes → Option KlassRecord → Option CodePlaces → Option Family
     → Option Places
 places_by l r types None code family = None

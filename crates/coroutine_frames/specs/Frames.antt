@@ -21,6 +21,7 @@ is_unbegun Bytes l r = nat_le (2 ^ 31) (u32_in r.frame l.frame.instr)
 is_unbegun Units l r = nat_le (2 ^ 31) (u32_in r.frame l.frame.instr)
 is_unbegun Pointer l r = false
 
+-- which line of code is asked for: the first one of a frame that has not begun, else its last instruction's
 abbrev pub asked_line : Bool → LineNo
 asked_line true = First
 asked_line false = LastInstruction
@@ -29,6 +30,7 @@ asked_line false = LastInstruction
 unfoldable pub own_line_at : Layout → Memory → MemberAt → Found ℤ
 own_line_at l m r = line_at (asked_line (is_unbegun l.lasti l r)) l m r
 
+-- what a frame shows, from its parts
 abbrev pub said_with : Option (List ℕ) → Option (List ℕ) → ℤ → CoroutineFrame
 said_with function filename line = record { function = function; filename = filename; line = line }
 

@@ -158,7 +158,7 @@ fn read_placed<P: ProcessMemory>(
 /// What the frame of the coroutine, generator or async generator at an address shows; none of one that is finished.
 ///
 /// `Unreadable` comes with the first record that is not in memory: its own, that of its frame, that of the frame's
-/// code. Else the error is want of memory. At most 9 reads.
+/// code. Else the error is out of memory. At most 9 reads.
 pub fn read_frame<P: ProcessMemory>(
     alloc: Global,
     process: &mut P,

@@ -26,6 +26,7 @@ pub record AreImageSymbols (bytes : List ℕ) (symbols : List SymbolEntry) : Typ
 
 -- ---- the one that covers an address
 
+-- whether a symbol is one of a function (`STT_FUNC`, gABI)
 abbrev pub is_function : ℕ × SymbolEntry → Bool
 is_function n = is_function_info n.1.info
 
@@ -68,6 +69,7 @@ abbrev pub holds_place : ℕ → Segment → Bool
 holds_place place segment =
     nat_eq segment.kind load_kind && (nat_le segment.offset place && nat_lt place (segment.offset + segment.file_size))
 
+-- the address of a place of a file, by the segment that has it (`p_vaddr`, `p_offset`, gABI)
 abbrev pub address_by : ℕ → Segment → ℕ
 address_by place segment = segment.addr + (place - segment.offset)
 

@@ -6,6 +6,7 @@ use Rattle.covering_symbols.specs.declared.function_key.FunctionKey.{FunctionKey
 use Rattle.covering_symbols.specs.FunctionKeys.{function_keys}
 use Rattle.covering_symbols.specs.KeyOrder.{IsInOrder}
 
+-- the number of a function in the table of symbols
 abbrev pub key_number : FunctionKey → ℕ
 key_number key = key.number
 

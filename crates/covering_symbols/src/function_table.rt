@@ -56,7 +56,7 @@ fn first_covering(keys: &[FunctionKey], addr: u128) -> Option<usize>
 }
 
 impl FunctionTable {
-    /// The functions of these symbols. The one error is want of memory, as which more than 2^32 - 1 pieces count into
+    /// The functions of these symbols. The one error is out of memory, as which more than 2^32 - 1 pieces count into
     /// which their ranges cut the addresses.
     pub fn of(alloc: Global, symbols: &[Symbol<'_>]) -> Result<FunctionTable, AllocError>
         ensures { IfOk result (IsTableOf (map symbol_entry_of symbols.now)) }

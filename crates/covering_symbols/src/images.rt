@@ -6,7 +6,7 @@ ghost use Rattle.covering_symbols.specs.Covering.{AreImageSymbols, AreSymbolsOf}
 use elf64_core::{Elf64, ElfError, Symbol, SymbolKind};
 use std::alloc::{AllocError, Global};
 
-/// The symbols of a kind, in table order; none where they can't be read. The one error is want of memory.
+/// The symbols of a kind, in table order; none where they can't be read. The one error is out of memory.
 fn symbols_of<'a>(
     alloc: Global,
     elf: &Elf64<'a>,
@@ -22,7 +22,7 @@ fn symbols_of<'a>(
 }
 
 /// The plain symbols of a file, and behind them the dynamic ones; a list that can't be read counts as empty. The one
-/// error is want of memory.
+/// error is out of memory.
 pub fn image_symbols<'a>(alloc: Global, elf: &Elf64<'a>) -> Result<Vec<Symbol<'a>>, AllocError>
     ensures { IfOk result (λ symbols. AreImageSymbols elf.now (map symbol_entry_of symbols.items)) }
 {

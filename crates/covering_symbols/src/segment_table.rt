@@ -113,7 +113,7 @@ fn numbered(segments: &[Segment], number: usize) -> Option<&Segment>
 }
 
 impl SegmentTable {
-    /// The segments of a file. The one error is want of memory.
+    /// The segments of a file. The one error is out of memory.
     pub fn of(alloc: Global, elf: &Elf64<'_>) -> Result<SegmentTable, AllocError>
         ensures { IfOk result (λ table. table ≡ segments_of elf.now) }
     {

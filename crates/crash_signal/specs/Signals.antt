@@ -23,18 +23,23 @@ siginfo_kind = 0x53494749
 abbrev pub signo_place : ℕ
 signo_place = 0
 
+-- where the note of the signal has its code, in bytes (`si_code` of `siginfo_t`, Linux)
 abbrev pub code_place : ℕ
 code_place = 8
 
+-- where it has the id of the process that sent the signal (`si_pid`)
 abbrev pub sender_place : ℕ
 sender_place = 16
 
+-- where it has that process's user (`si_uid`)
 abbrev pub user_place : ℕ
 user_place = 20
 
+-- where it has the address of a fault (`si_addr`)
 abbrev pub address_place : ℕ
 address_place = 16
 
+-- where it has the number of the system call of SIGSYS (`si_syscall`)
 abbrev pub call_place : ℕ
 call_place = 24
 
@@ -68,6 +73,7 @@ abbrev pub is_own : Option ℤ → ℤ → Bool
 is_own None pid = false
 is_own (Some own) pid = int_eq own pid
 
+-- who sent the signal: the process itself, or another one
 abbrev pub sender_of : Bool → ℤ → ℕ → Cause
 sender_of own pid uid = if own then Itself pid uid else Process pid uid
 
@@ -85,6 +91,7 @@ unfoldable pub call_in : List ℕ → Option Cause
 call_in info = if nat_lt (length info) 28 then None
     else Some (Call (u64_in info address_place) (i32_in info call_place))
 
+-- a signal of the kernel without an address, where it is one of an access, else of the kernel
 abbrev pub system_cause : ℤ → Cause
 system_cause signal = if is_access signal then NoAddress else System
 
@@ -97,6 +104,7 @@ cause_in own signal code info =
     else if is_call signal code then call_in info
     else Some Code
 
+-- what is told of a signal; that the note is too short where it has no cause
 abbrev pub told_or_short : (signal code : ℤ) → Option Cause → Result CrashSignal Untold
 told_or_short signal code None = Err Short
 told_or_short signal code (Some cause) = Ok (record { signal = signal; code = code; cause = cause })
@@ -112,6 +120,7 @@ told_in own signal info =
 abbrev pub info_told : Option ℤ → ℤ → List ℕ → Result CrashSignal Untold
 info_told own signal info = if nat_lt (length info) 12 then Err Short else told_in own signal info
 
+-- the number of a signal; 0 says that there was none
 abbrev pub signal_or_none : ℤ → Option ℤ
 signal_or_none signal = if int_eq signal (pos 0) then None else Some signal
 
@@ -124,6 +133,7 @@ signal_of_status status =
 abbrev pub ended_by : List Noted → Option ℤ
 ended_by notes = option_and_then signal_of_status (desc_of status_kind notes)
 
+-- what a core tells of its signal, by the first status record and the note of the signal
 abbrev pub told_of : Option ℤ → Option ℤ → Option (List ℕ) → Result CrashSignal Untold
 told_of own None info = Err NoSignal
 told_of own (Some signal) None = Err NoNote

@@ -17,9 +17,11 @@ abbrev pub word_or : List ℕ → ℤ → Option (List ℕ) → List ℕ
 word_or kind number (Some word) = word
 word_or kind number None = kind ++ signed_decimal number
 
+-- the name of a signal, as `SIGSEGV`; its number where it has none
 abbrev pub name_text : ℤ → List ℕ
 name_text signal = word_or (codes "signal ") signal (name_of signal)
 
+-- what a code says of its signal; its number where it says nothing
 abbrev pub meaning_text : (signal code : ℤ) → List ℕ
 meaning_text signal code = word_or (codes "code ") code (meaning_of signal code)
 
@@ -40,12 +42,14 @@ cause_text signal code Code = codes " with code " ++ signed_decimal code
 abbrev pub other_text : ℤ → List ℕ
 other_text signal = codes "The note is of " ++ (name_text signal ++ codes ", another signal\n")
 
+-- the line that says why nothing is told of the signal
 abbrev pub untold_text : Untold → List ℕ
 untold_text NoSignal = codes "No signal is told by the first thread's record\n"
 untold_text NoNote = codes "No note tells how the signal came about\n"
 untold_text Short = codes "The note of the signal is too short\n"
 untold_text (Other signal) = other_text signal
 
+-- the line of a signal and how it came about, or why that isn't told
 abbrev pub signal_text : Result CrashSignal Untold → List ℕ
 signal_text (Ok s) = name_text s.signal ++ (cause_text s.signal s.code s.cause ++ codes "\n")
 signal_text (Err why) = untold_text why

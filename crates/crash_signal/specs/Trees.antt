@@ -24,6 +24,7 @@ plain_tree kind signal code = object (
     member (codes "name") (word_tree (name_of signal)) (
     member (codes "signal") (number (of_integer signal)) no_members))))
 
+-- JSON of a signal that a process sent
 abbrev pub sender_tree : List ℕ → (signal code pid : ℤ) → ℕ → Data
 sender_tree kind signal code pid uid = object (
     member (codes "code") (number (of_integer code)) (
@@ -33,6 +34,7 @@ sender_tree kind signal code pid uid = object (
     member (codes "signal") (number (of_integer signal)) (
     member (codes "uid") (number (unsigned uid)) no_members))))))
 
+-- JSON of a signal that an access to an address raised
 abbrev pub fault_tree : (signal code : ℤ) → ℕ → Data
 fault_tree signal code address = object (
     member (codes "address") (string (address_text address)) (
@@ -42,6 +44,7 @@ fault_tree signal code address = object (
     member (codes "name") (word_tree (name_of signal)) (
     member (codes "signal") (number (of_integer signal)) no_members))))))
 
+-- JSON of a signal that a forbidden system call raised
 abbrev pub call_tree : (signal code : ℤ) → ℕ → ℤ → Data
 call_tree signal code address call = object (
     member (codes "call") (number (of_integer call)) (
@@ -51,6 +54,7 @@ call_tree signal code address call = object (
     member (codes "name") (word_tree (name_of signal)) (
     member (codes "signal") (number (of_integer signal)) no_members))))))
 
+-- JSON of a signal, by how it came about
 abbrev pub cause_tree : (signal code : ℤ) → Cause → Data
 cause_tree signal code (Itself pid uid) = sender_tree (codes "itself") signal code pid uid
 cause_tree signal code (Process pid uid) = sender_tree (codes "process") signal code pid uid
@@ -60,9 +64,11 @@ cause_tree signal code System = plain_tree (codes "system") signal code
 cause_tree signal code (Call address call) = call_tree signal code address call
 cause_tree signal code Code = plain_tree (codes "code") signal code
 
+-- JSON of a kind alone
 abbrev pub kind_tree : List ℕ → Data
 kind_tree kind = object (member (codes "kind") (string kind) no_members)
 
+-- JSON of why nothing is told of the signal
 abbrev pub untold_tree : Untold → Data
 untold_tree NoSignal = kind_tree (codes "no signal")
 untold_tree NoNote = kind_tree (codes "no note")
@@ -71,6 +77,7 @@ untold_tree (Other signal) = object (
     member (codes "kind") (string (codes "another signal")) (
     member (codes "signal") (number (of_integer signal)) no_members))
 
+-- JSON of a signal and how it came about, or of why that isn't told
 abbrev pub signal_tree : Result CrashSignal Untold → Data
 signal_tree (Ok s) = cause_tree s.signal s.code s.cause
 signal_tree (Err why) = untold_tree why

@@ -71,7 +71,7 @@ fn push_untold(text: &mut String, why: Untold) -> Result<(), AllocError>
 
 /// Appends the line that says how a signal came about, or why that is not told, with a line feed at its end:
 /// `SIGSEGV at 0x10: address not mapped`, `SIGTERM by process 1, user 0`, `SIGABRT by itself`. A signal or a meaning
-/// without a name stands as its number: `signal 34`, `code 20`. The one error is want of memory.
+/// without a name stands as its number: `signal 34`, `code 20`. The one error is out of memory.
 pub fn push_signal(text: &mut String, told: &Result<CrashSignal, Untold>) -> Result<(), AllocError>
     ensures { OnOk result (string_bytes text.new ≡ string_bytes text.old ++ signal_text told.now) }
 {

@@ -143,7 +143,7 @@ fn untold_value(alloc: Global, why: Untold) -> Result<Value, AllocError>
 /// the sender's `pid` and `uid`; `fault`: the `address`, a text in hexadecimal digits, and the code's `meaning` (null
 /// where it has none); `call`: the number of the `call` and its `call_address`; `no address`, `system` and `code`:
 /// nothing. Untold, the kind is `no signal`, `no note`, `short note`, or `another signal` with that `signal`.
-/// The keys stand in the order of their bytes. The one error is want of memory.
+/// The keys stand in the order of their bytes. The one error is out of memory.
 pub fn signal_value(alloc: Global, told: &Result<CrashSignal, Untold>) -> Result<Value, AllocError>
     ensures value { IfOk result (λ value. view value ≡ signal_tree told.now) }
     ensures no_float { has_float (signal_tree told.now) ≡ false }

@@ -21,9 +21,11 @@ abbrev pub found : Result (Option (Bor (List ℕ))) ElfError → FoundBuildId
 found (Ok id) = Ok (option_copied id)
 found (Err error) = Err error
 
+-- `NT_GNU_BUILD_ID`, the type of a note with a build id (binutils, elf/common.h)
 abbrev pub build_id_kind : ℕ
 build_id_kind = 3
 
+-- a note of another type than a build id's
 abbrev pub IsOther : Noted → Type 0
 IsOther note = note.kind ≢ build_id_kind
 
@@ -45,6 +47,7 @@ pub record NotesHoldBuildId (bytes : List ℕ) (result : FoundBuildId) : Type 0 
   pub others : All IsOther before
   pub ends : Ends rest result
 
+-- `SHT_NOTE`, the type of a section of notes (gABI, "Section Header")
 abbrev pub note_section_kind : ℕ
 note_section_kind = 7
 

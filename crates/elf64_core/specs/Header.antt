@@ -23,9 +23,11 @@ pub record IsElf64 (bytes : List ℕ) : Type 0 where
 abbrev pub program_table : List ℕ → ℕ
 program_table bytes = u64_in bytes e_phoff
 
+-- `e_phentsize`, the length of a program header (gABI, "ELF Header")
 abbrev pub entry_size : List ℕ → ℕ
 entry_size bytes = u16_in bytes e_phentsize
 
+-- `e_phnum`, how many program headers there are (gABI, "ELF Header")
 abbrev pub segment_count : List ℕ → ℕ
 segment_count bytes = u16_in bytes e_phnum
 
@@ -33,6 +35,7 @@ segment_count bytes = u16_in bytes e_phnum
 abbrev pub machine_named : ℕ → Machine
 machine_named number = if nat_eq number 62 then X86_64 else (if nat_eq number 183 then Aarch64 else Other)
 
+-- the machine that the header names by `e_machine` (gABI, "ELF Header")
 abbrev pub machine_of : List ℕ → Machine
 machine_of bytes = machine_named (u16_in bytes e_machine)
 
@@ -60,9 +63,11 @@ segments_of bytes = segments_from bytes (program_table bytes) (segment_count byt
 abbrev pub IsInside : List ℕ → (start size : ℕ) → Type 0
 IsInside bytes start size = (size ≡ 0) ⊎ (start + size ≤ length bytes)
 
+-- `PT_LOAD`, the type of a loadable segment (gABI, "Program Header")
 abbrev pub load_kind : ℕ
 load_kind = 1
 
+-- `PT_NOTE`, the type of a segment of notes (gABI, "Program Header")
 abbrev pub note_kind : ℕ
 note_kind = 4
 

@@ -13,6 +13,7 @@ pub record Noted : Type 0 where
   pub kind : ℕ
   pub desc : List ℕ
 
+-- a note's type and contents
 abbrev pub noted : Note → Noted
 noted note = record { kind = note.kind; desc = note.desc.now }
 

@@ -3,6 +3,7 @@ use Rattle.std.specs.Prelude.{◌≡◌, ℕ, ◌+◌, ◌*◌, ◌/◌, ◌<◌
 use Rattle.std.specs.Prelude.{slice_index_or}
 use Rattle.std.specs.List.{position, position_from}
 
+-- whether a byte is 0
 abbrev pub is_nul : ℕ → Bool
 is_nul byte = nat_eq byte 0
 

@@ -14,12 +14,15 @@ use Rattle.elf64_core.specs.declared.section.Section.{Section}
 abbrev pub section_table : List ℕ → ℕ
 section_table bytes = u64_in bytes e_shoff
 
+-- `e_shentsize`, the length of a section header (gABI, "ELF Header")
 abbrev pub section_entry_size : List ℕ → ℕ
 section_entry_size bytes = u16_in bytes e_shentsize
 
+-- `e_shnum`, how many section headers there are (gABI, "ELF Header")
 abbrev pub section_count : List ℕ → ℕ
 section_count bytes = u16_in bytes e_shnum
 
+-- `e_shstrndx`, the number of the section of section names (gABI, "ELF Header")
 abbrev pub names_section : List ℕ → ℕ
 names_section bytes = u16_in bytes e_shstrndx
 

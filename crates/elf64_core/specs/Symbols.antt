@@ -52,6 +52,7 @@ section_kind Dynamic = 11
 abbrev pub first_section : SymbolKind → List Section → Option Section
 first_section kind sections = find (λ section. nat_eq section.kind (section_kind kind)) sections
 
+-- the first section of a kind of symbol table
 abbrev pub symbol_section : List ℕ → SymbolKind → Option Section
 symbol_section bytes kind = first_section kind (sections_of bytes)
 
@@ -65,6 +66,7 @@ abbrev pub entries_or_none : Option (List ℕ) → Option (List ℕ) → List Sy
 entries_or_none strings None = []
 entries_or_none strings (Some table) = entries_in strings table
 
+-- the entries of a symbol table; none where there is no such section
 abbrev pub section_entries : List ℕ → Option Section → List SymbolEntry
 section_entries bytes None = []
 section_entries bytes (Some section) = entries_or_none (strings_of bytes section.link) (contents_of bytes section)

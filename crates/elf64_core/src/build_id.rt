@@ -78,7 +78,7 @@ pub fn read_build_id<'a>(elf: &Elf64<'a>) -> Result<Option<&'a [u8]>, ElfError>
 /// A copy of the build id of a file's bytes.
 ///
 /// It comes, and `NotElf64`, `BadHeader` and `BadNote` come, as from `Elf64::parse` and then
-/// `read_build_id`. Else the one error is want of memory.
+/// `read_build_id`. Else the one error is out of memory.
 pub fn read_elf_build_id(alloc: Global, bytes: &[u8]) -> Result<Option<BuildId>, ElfError>
     ensures right { IsErrOf result ElfError.OutOfMemory ⊎ FileHoldsBuildId bytes.now result }
     ensures only { (other : FoundBuildId) → FileHoldsBuildId bytes.now other

@@ -35,7 +35,7 @@ impl Model for Name {
 }
 
 impl Name {
-    /// A copy of the bytes. The one error is want of memory.
+    /// A copy of the bytes. The one error is out of memory.
     pub fn of(alloc: Global, bytes: &[u8]) -> Result<Name, AllocError>
         ensures { IfOk result (λ n. n ≡ bytes.now) }
     {
@@ -43,7 +43,7 @@ impl Name {
         Ok(Name { shared })
     }
 
-    /// The same name once more; no byte is copied. The one error is want of memory: there are too many shares.
+    /// The same name once more; no byte is copied. The one error is out of memory: there are too many shares.
     pub fn share(&self) -> Result<Name, AllocError>
         ensures { IfOk result (λ n. n ≡ self.now) }
     {
@@ -59,7 +59,7 @@ impl Name {
     }
 
     /// The name as text: its characters where it is UTF-8; U+FFFD for each longest piece that is not (The
-    /// Unicode Standard, table 3-7). The one error is want of memory.
+    /// Unicode Standard, table 3-7). The one error is out of memory.
     pub fn lossy(&self, alloc: Global) -> Result<Text, AllocError>
         ensures { IfOk result (λ text. text ≡ lossy_chars self.now) }
     {

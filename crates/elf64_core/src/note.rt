@@ -75,7 +75,7 @@ impl<'a> Elf64<'a> {
     ///
     /// `BadHeader` comes exactly where the range does not lie in the file. `BadNote` comes only where it does
     /// and no list of notes has these bytes: a name or a descriptor passes their end, or 1 to 11 bytes are
-    /// left; there no other error comes but want of memory. Else the one error is want of memory.
+    /// left; there no other error comes but out of memory. Else the one error is out of memory.
     /// Descriptors are parts of the file.
     pub fn notes(&self, alloc: Global, start: u64, len: u64) -> Result<Vec<Note<'a>>, ElfError>
         ensures outside { IsErrOf result ElfError.BadHeader ↔ (¬ IsInside self.now start len) }

@@ -61,7 +61,7 @@ fn ends_of(alloc: Global, strings: &[u8]) -> Result<Vec<Option<usize>>, AllocErr
 }
 
 impl<'a> StringTable<'a> {
-    /// The table of these bytes, which are gone through once. The one error is want of memory.
+    /// The table of these bytes, which are gone through once. The one error is out of memory.
     pub fn of(alloc: Global, strings: &'a [u8]) -> Result<StringTable<'a>, AllocError>
         ensures { IfOk result (λ table. table ≡ strings.now) }
     {
@@ -100,7 +100,7 @@ impl<'a> StringTable<'a> {
     }
 }
 
-/// The table of strings that may be there. The one error is want of memory.
+/// The table of strings that may be there. The one error is out of memory.
 pub(crate) fn table_of<'a>(
     alloc: Global,
     strings: Option<&'a [u8]>,

@@ -52,7 +52,7 @@ fn symbol_in<'a>(strings: &Option<StringTable<'a>>, table: &[u8], at: usize) -> 
     }
 }
 
-/// The symbols of the whole entries of a symbol section. The one error is want of memory.
+/// The symbols of the whole entries of a symbol section. The one error is out of memory.
 fn symbols_in<'a>(
     alloc: Global,
     strings: &Option<StringTable<'a>>,
@@ -92,7 +92,7 @@ impl<'a> Elf64<'a> {
     /// kind. What is left after its last whole entry of 24 bytes is not looked at.
     ///
     /// `BadHeader` comes exactly where it comes from `sections`, or the bytes of that section do not lie
-    /// in the file. Else the one error is want of memory. Names are parts of the file.
+    /// in the file. Else the one error is out of memory. Names are parts of the file.
     pub fn symbols(&self, alloc: Global, kind: SymbolKind) -> Result<Vec<Symbol<'a>>, ElfError>
         ensures bad { IsErrOf result ElfError.BadHeader ↔ (¬ HasSymbols self.now kind) }
         ensures only { IfErr result (λ error. (error ≡ ElfError.BadHeader) ⊎ (error ≡ ElfError.OutOfMemory)) }

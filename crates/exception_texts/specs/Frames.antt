@@ -16,6 +16,7 @@ use Rattle.thread_exceptions.specs.declared.links.Lost.{Lost}
 use Rattle.thread_exceptions.specs.declared.links.LinkEnd.{LinkEnd}
 use Rattle.thread_exceptions.specs.declared.links.LinkEnd.TheVariants.{Null, Unreadable, Cycle, Cut}
 
+-- one step of indentation: 8 blanks
 abbrev pub step_text : List ℕ
 step_text = codes "        "
 
@@ -32,6 +33,7 @@ indent_text depth = codes "        " ++ steps_text depth
 abbrev pub behind_text : ℕ → List ℕ
 behind_text depth = indent_text depth ++ codes "    "
 
+-- which bytes can't be read: `unreadable at 0x.., n bytes`
 abbrev pub lost_text : Lost → List ℕ
 lost_text l = codes "unreadable at 0x" ++ (digits 16 false l.addr ++ (codes ", " ++ (decimal l.len ++ codes " bytes")))
 
@@ -44,20 +46,25 @@ shown_line (negsuc n) = 0
 abbrev pub line_number : ℕ → List ℕ
 line_number n = if n == 0 then [] else codes ":" ++ decimal n
 
+-- a called function in a traceback, to the end of its line: name, file and, where it is known, line
 abbrev pub frame_text : CalledFrame → List ℕ
 frame_text f = name_text f.function ++ (codes " (" ++ (name_text f.filename
     ++ (line_number (shown_line f.line) ++ codes ")\n")))
 
+-- an entry's frame, or that it can't be read
 abbrev pub own_frame_text : Option CalledFrame → List ℕ
 own_frame_text None = codes "? unreadable\n"
 own_frame_text (Some f) = frame_text f
 
+-- the line of an entry of a traceback, below an exception at this depth
 abbrev pub entry_text : ℕ → Entry → List ℕ
 entry_text depth e = behind_text depth ++ own_frame_text e.frame
 
+-- the lines of several entries of a traceback
 abbrev pub entries_text : ℕ → List Entry → List ℕ
 entries_text depth entries = concat (map (λ e. entry_text depth e) entries)
 
+-- that so many of something are left out
 abbrev pub more_text : ℕ → List ℕ → List ℕ
 more_text left_out what = codes "... " ++ (decimal left_out ++ what)
 
@@ -65,12 +72,15 @@ more_text left_out what = codes "... " ++ (decimal left_out ++ what)
 abbrev pub left_out_line : ℕ → ℕ → List ℕ → List ℕ
 left_out_line depth left_out what = if left_out == 0 then [] else behind_text depth ++ more_text left_out what
 
+-- a line that says which bytes can't be read, below an exception at this depth
 abbrev pub lost_line : ℕ → Lost → List ℕ
 lost_line depth l = behind_text depth ++ (codes "... " ++ (lost_text l ++ codes "\n"))
 
+-- an address in hexadecimal digits, at the end of a line
 abbrev pub address_end : ℕ → List ℕ
 address_end a = codes "0x" ++ (digits 16 false a ++ codes "\n")
 
+-- a line that ends in an address, below an exception at this depth
 abbrev pub on_line : ℕ → List ℕ → ℕ → List ℕ
 on_line depth lead a = behind_text depth ++ (lead ++ address_end a)
 
@@ -90,15 +100,19 @@ trace_text depth t = entries_text depth t.first.items ++ (left_out_line depth t.
 abbrev pub note_line : ℕ → Option Value → List ℕ
 note_line depth note = behind_text depth ++ (codes "Note: \"" ++ (str_text false note ++ codes "\"\n"))
 
+-- the lines of an exception's notes
 abbrev pub note_lines : ℕ → List (Option Value) → List ℕ
 note_lines depth notes = concat (map (λ n. note_line depth n) notes)
 
+-- the notes, and how many more are left out
 abbrev pub some_notes : ℕ → Values → List ℕ
 some_notes depth v = note_lines depth v.values.items ++ left_out_line depth v.left_out (codes " more notes\n")
 
+-- the line that says that the notes can't be read
 abbrev pub lost_notes : ℕ → List ℕ
 lost_notes depth = behind_text depth ++ codes "... its notes are unreadable\n"
 
+-- an exception's notes (`__notes__`); no line where it has none
 abbrev pub notes_text : ℕ → Notes → List ℕ
 notes_text depth notes.Without = []
 notes_text depth (notes.Listed v) = some_notes depth v

@@ -12,6 +12,7 @@ use Rattle.py_exceptions.specs.declared.last.LastFound.TheVariants as found
 use Rattle.py_exceptions.specs.declared.last.LastName.{LastName}
 use Rattle.py_exceptions.specs.declared.thread.ToldThread.{ToldThread}
 
+-- how the lines about the last exception that no code handled begin
 unfoldable pub last_lead : List ℕ
 last_lead = codes "Last exception that no code handled"
 
@@ -19,9 +20,11 @@ last_lead = codes "Last exception that no code handled"
 abbrev pub last_title : LastName → List ℕ
 last_title name = last_lead ++ (codes " (sys." ++ (key_of name ++ codes "):\n"))
 
+-- how the line ends where that exception can't be read
 unfoldable pub lost_end : List ℕ
 lost_end = codes " can't be read\n"
 
+-- the line for a last exception that can't be read, with its name in `sys`
 abbrev pub lost_last : LastName → List ℕ
 lost_last name = last_lead ++ (codes ": sys." ++ (key_of name ++ lost_end))
 
@@ -29,11 +32,13 @@ lost_last name = last_lead ++ (codes ": sys." ++ (key_of name ++ lost_end))
 abbrev pub alone_lines : ℕ → ToldThread → List ℕ
 alone_lines a t = lines_text t (lines_of t.thread.met.items (Show 0 a ∷ []))
 
+-- the lines of the last exception under its name in `sys`; none where there is none
 abbrev pub found_text : LastName → LastFound → List ℕ
 found_text name found.Nothing = []
 found_text name (found.Exception a told) = last_title name ++ alone_lines a told
 found_text name found.Unreadable = lost_last name
 
+-- the lines of the last exception that no code handled; none where it isn't described
 abbrev pub last_text : Option LastException → List ℕ
 last_text None = []
 last_text (Some t) = found_text t.name t.found

@@ -30,6 +30,7 @@ has_value (Some (Float bits)) = true
 has_value (Some (Other a class)) = true
 has_value None = true
 
+-- whether a value is a text, of any length
 abbrev pub is_text : Option Value → Bool
 is_text (Some (Text t)) = true
 is_text (Some (LongText a)) = true
@@ -42,6 +43,7 @@ is_text (Some (Float bits)) = false
 is_text (Some (Other a class)) = false
 is_text None = false
 
+-- whether a value is an integer, of any size
 abbrev pub is_number : Option Value → Bool
 is_number (Some (Number n)) = true
 is_number (Some (LongNumber a negative)) = true
@@ -60,9 +62,11 @@ by_items is_raw [] values = []
 by_items is_raw (only ∷ []) values = str_text is_raw only
 by_items is_raw (first ∷ second ∷ rest) values = tuple_text is_raw values
 
+-- what `BaseException_str` gives: nothing without an argument, `str` of one, or the tuple of several
 abbrev pub count_text : Bool → Values → List ℕ
 count_text is_raw values = by_items is_raw values.values.items values
 
+-- the same; `?` where the arguments can't be read
 abbrev pub plain_said : Bool → Option Values → List ℕ
 plain_said is_raw None = codes "?"
 plain_said is_raw (Some values) = count_text is_raw values
@@ -73,9 +77,11 @@ by_key is_raw [] values = []
 by_key is_raw (only ∷ []) values = repr_text is_raw only
 by_key is_raw (first ∷ second ∷ rest) values = tuple_text is_raw values
 
+-- what `KeyError_str` gives: nothing without an argument, `repr` of one, or the tuple of several
 abbrev pub one_text : Bool → Values → List ℕ
 one_text is_raw values = by_key is_raw values.values.items values
 
+-- the same; `?` where the arguments can't be read
 abbrev pub key_text : Bool → Option Values → List ℕ
 key_text is_raw None = codes "?"
 key_text is_raw (Some values) = one_text is_raw values
@@ -84,35 +90,45 @@ key_text is_raw (Some values) = one_text is_raw values
 abbrev pub system_lead : Bool → Option Value → Option Value → List ℕ
 system_lead is_raw errno said = codes "[Errno " ++ (str_text is_raw errno ++ (codes "] " ++ str_text is_raw said))
 
+-- the second file of an `OSError`, behind ` -> `; nothing where there is none
 abbrev pub second_text : Bool → Option Value → List ℕ
 second_text is_raw second = if has_value second then codes " -> " ++ repr_text is_raw second else []
 
+-- the file of an `OSError`, and the second one, as code has them
 abbrev pub system_file : Bool → Option Value → Option Value → List ℕ
 system_file is_raw file second = codes ": " ++ (repr_text is_raw file ++ second_text is_raw second)
 
+-- an `OSError` with a file: `[Errno n] text: 'file'`, and the second one behind it
 abbrev pub with_file : Bool → (errno said file second : Option Value) → List ℕ
 with_file is_raw errno said file second = system_lead is_raw errno said ++ system_file is_raw file second
 
+-- an `OSError` without a file: `[Errno n] text`, or its arguments where number or text is missing
 abbrev pub without_file : Bool → (errno said : Option Value) → Option Values → List ℕ
 without_file is_raw errno said arguments =
     if has_value errno && has_value said then system_lead is_raw errno said else plain_said is_raw arguments
 
+-- what `OSError_str` gives: with a file or without
 abbrev pub system_text : Bool → (errno said file second : Option Value) → Option Values → List ℕ
 system_text is_raw errno said file second arguments =
     if has_value file then with_file is_raw errno said file second else without_file is_raw errno said arguments
 
+-- what `ImportError_str` gives: its message, or its arguments where that is no text
 abbrev pub import_text : Bool → Option Value → Option Values → List ℕ
 import_text is_raw said arguments = if is_text said then str_text is_raw said else plain_said is_raw arguments
 
+-- the file of a `SyntaxError`, as it is printed
 abbrev pub file_text : Bool → Option Value → List ℕ
 file_text is_raw file = str_text is_raw file
 
+-- the line of a `SyntaxError`: `line n`
 abbrev pub line_text : Bool → Option Value → List ℕ
 line_text is_raw line = codes "line " ++ str_text is_raw line
 
+-- the line behind a file, after a comma; nothing where it is no number
 abbrev pub behind_file : Bool → Option Value → List ℕ
 behind_file is_raw line = if is_number line then codes ", " ++ line_text is_raw line else []
 
+-- the line without a file, in parentheses; nothing where it is no number
 abbrev pub line_alone : Bool → Option Value → List ℕ
 line_alone is_raw line = if is_number line then codes " (" ++ (line_text is_raw line ++ codes ")") else []
 
@@ -122,37 +138,43 @@ place_text is_raw file line = if is_text file
     then codes " (" ++ (file_text is_raw file ++ (behind_file is_raw line ++ codes ")"))
     else line_alone is_raw line
 
+-- what `SyntaxError_str` gives, but with the file's whole path
 abbrev pub syntax_text : Bool → (said file line : Option Value) → List ℕ
 syntax_text is_raw said file line = str_text is_raw said ++ place_text is_raw file line
 
+-- how many exceptions a group has: ` (1 sub-exception)`, or ` (n sub-exceptions)`
 abbrev pub counted_text : ℕ → List ℕ
 counted_text n = if n == 1 then codes " (1 sub-exception)" else codes " (" ++ (decimal n ++ codes " sub-exceptions)")
 
+-- the same, of those told and those left out
 abbrev pub number_text : ℕ → ℕ → List ℕ
 number_text told left_out = counted_text (told + left_out)
 
+-- how many exceptions a group has; `?` where its members can't be read
 abbrev pub members_text : Members → List ℕ
 members_text (Members.Group its left_out) = number_text (length its) left_out
 members_text Members.NoGroup = codes " (? sub-exceptions)"
 members_text (Members.Lost f) = codes " (? sub-exceptions)"
 
+-- what `BaseExceptionGroup_str` gives: the message, and how many exceptions it has
 abbrev pub group_text : Bool → Option Value → Members → List ℕ
 group_text is_raw said own = str_text is_raw said ++ members_text own
 
--- of what can't be encoded
+-- what `UnicodeEncodeError_str` gives
 abbrev pub encode_text : Bool → Option Value → InvalidData → Option Values → List ℕ
 encode_text is_raw encoding d arguments =
     unicode_text Encode is_raw encoding d arguments (coded_shown encoding d)
 
--- of what can't be decoded
+-- what `UnicodeDecodeError_str` gives
 abbrev pub decode_text : Bool → Option Value → InvalidData → Option Values → List ℕ
 decode_text is_raw encoding d arguments =
     unicode_text Decode is_raw encoding d arguments (coded_shown encoding d)
 
--- of what can't be translated
+-- what `UnicodeTranslateError_str` gives
 abbrev pub translate_text : Bool → InvalidData → Option Values → List ℕ
 translate_text is_raw d arguments = unicode_text Translate is_raw None d arguments (data_shown d)
 
+-- what an exception says by this rule; its arguments in parentheses where the rule is not known
 abbrev pub by_rule : Bool → Rule → Option Values → Members → List ℕ
 by_rule is_raw rule.Plain arguments own = plain_said is_raw arguments
 by_rule is_raw rule.Key arguments own = key_text is_raw arguments

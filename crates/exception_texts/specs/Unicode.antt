@@ -41,7 +41,7 @@ place_shown first None end = Unknown
 place_shown first (Some start) None = Unknown
 place_shown first (Some start) (Some end) = span_shown first start end
 
--- a value is a text that is told whole
+-- whether a value is a text that is told whole
 abbrev pub is_whole : Option Value → Bool
 is_whole (Some (value.Text t)) = true
 is_whole (Some (value.LongText a)) = false

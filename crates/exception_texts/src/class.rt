@@ -109,7 +109,7 @@ pub(crate) fn push_known_class(
 
 /// Appends the name of a class, in which control characters, quotes and backslashes are escaped; a module that Python
 /// leaves out where it names an exception's class is left out, and `?` stands for a name that can't be read. The one
-/// error is want of memory.
+/// error is out of memory.
 pub fn push_named(
     alloc: Global,
     text: &mut String,

@@ -127,7 +127,7 @@ fn push_whole(
 /// begins with three points.
 ///
 /// Behind an interpreter's threads stands the last exception that no code handled, where its `sys` has one, below a
-/// line that says under which name, or the line that this can't be read. The one error is want of memory.
+/// line that says under which name, or the line that this can't be read. The one error is out of memory.
 pub fn push_exceptions(
     alloc: Global,
     text: &mut String,

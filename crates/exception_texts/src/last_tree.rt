@@ -119,7 +119,7 @@ fn interpreter_value(alloc: Global, told: &InterpreterExceptions) -> Result<Valu
 /// gives that (`message_by`), its `args` as code has them, the `frames` of its traceback, the oldest call first, of
 /// which `frames_left_out` are missing behind the first 128, how the traceback breaks off, its `end`, its `cause` and
 /// its `context` by their addresses, whether that is suppressed, its `notes` and the `members` of a group. The keys of
-/// an object stand in the order of their bytes. The one error is want of memory.
+/// an object stand in the order of their bytes. The one error is out of memory.
 pub fn exceptions_value(
     alloc: Global,
     exceptions: &[InterpreterExceptions],

@@ -18,9 +18,11 @@ use Rattle.frame_expressions.specs.declared.operation.Operation.TheVariants.{Dup
 abbrev pub word_of : Bool → ℕ
 word_of b = if b then 1 else 0
 
+-- a word of 64 bits shifted left; 0 where that is by 64 bits or more (DWARF 5, `DW_OP_shl`)
 abbrev pub shifted_left : ℕ → ℕ → ℕ
 shifted_left left right = if nat_lt right 64 then (left * 2 ^ right) % 2 ^ 64 else 0
 
+-- a word shifted right, with zeros from above; 0 where that is by 64 bits or more (DWARF 5, `DW_OP_shr`)
 abbrev pub shifted_right : ℕ → ℕ → ℕ
 shifted_right left right = if nat_lt right 64 then left / 2 ^ right else 0
 
@@ -43,6 +45,7 @@ combined Less left right = word_of (int_lt (cast_signed w64 left) (cast_signed w
 
 -- ---- stacks, the top first
 
+-- how many words a stack has at most
 abbrev pub deepest : ℕ
 deepest = 64
 
@@ -50,6 +53,7 @@ deepest = 64
 abbrev pub pushed : ℕ → List ℕ → Option (List ℕ)
 pushed word stack = if nat_lt (length stack) deepest then Some (word ∷ stack) else None
 
+-- a stack with one more word, where that is known and there is room
 abbrev pub pushed_if : Option ℕ → List ℕ → Option (List ℕ)
 pushed_if None stack = None
 pushed_if (Some word) stack = pushed word stack

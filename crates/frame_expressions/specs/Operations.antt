@@ -47,6 +47,7 @@ form_of opcode =
     else if is_in_range 41 46 opcode then Some Plain
     else None
 
+-- which combination of two words each opcode is
 abbrev pub combination_of : ℕ → Combination
 combination_of opcode =
     if opcode == 26 then And
@@ -86,6 +87,7 @@ operation_of opcode operand =
 abbrev pub with_sign : (half number : ℕ) → ℕ
 with_sign half number = if nat_lt number half then number else (number + (2 ^ 64 - 2 * half)) % 2 ^ 64
 
+-- bytes are the operand that an opcode of this form has, as a word
 abbrev pub IsOperand : Form → List ℕ → ℕ → Type 0
 IsOperand Plain text word = (text ≡ []) × (word ≡ 0)
 IsOperand One text word = (length text ≡ 1) × (word ≡ little text)
@@ -117,17 +119,21 @@ pub record IsFirst (bytes : List ℕ) (r : Read) : Type 0 where
   pub spells : Spells text r.operation
   pub long : r.size ≡ length text
 
+-- an operation that was read, and how many bytes it has
 abbrev pub read : Operation → ℕ → Read
 read operation size = record { operation = operation; size = size }
 
 -- ---- what a reader makes of bytes that may go on
 
+-- a number of fewer bytes with its sign, as a word; `half` is the first that is negative
 abbrev pub widened : ℕ → Number → Number
 widened half n = record { value = with_sign half n.value; size = n.size }
 
+-- the number with a sign of so many bytes at the front of some bytes
 abbrev pub signed_fixed : (size half : ℕ) → List ℕ → Result Number Flaw
 signed_fixed size half rest = read_then (fixed_in size rest) (λ n. Ok (widened half n))
 
+-- the operand of a form at the front of some bytes, or why there is none
 unfoldable pub operand_in : Form → List ℕ → Result Number Flaw
 operand_in Plain rest = Ok (record { value = 0; size = 0 })
 operand_in One rest = fixed_in 1 rest
@@ -141,13 +147,16 @@ operand_in Unsigned rest = unsigned_in rest
 operand_in Signed rest =
     read_then (signed_in rest) (λ n. Ok (record { value = cast_unsigned w64 n.value; size = n.size }))
 
+-- the operation that an opcode is with its operand, and how many bytes it has
 abbrev pub read_of : ℕ → Number → Result Read Flaw
 read_of opcode n = Ok (read (operation_of opcode n.value) (1 + n.size))
 
+-- the operation of an opcode by its form; without a form the opcode is not known
 abbrev pub formed_in : ℕ → List ℕ → Option Form → Result Read Flaw
 formed_in opcode rest None = Err (Unknown opcode)
 formed_in opcode rest (Some form) = read_then (operand_in form rest) (read_of opcode)
 
+-- the operation at the front of some bytes, or why there is none
 unfoldable pub operation_in : List ℕ → Result Read Flaw
 operation_in [] = Err Cut
 operation_in (opcode ∷ rest) = formed_in opcode rest (form_of opcode)

@@ -21,6 +21,7 @@ pair_step Pairs byte = Some (cast_signed w8 byte)
 pair_step Ranges byte = if byte == 128 then None else Some (cast_signed w8 byte)
 pair_step Locations byte = Some (cast_signed w8 byte)
 
+-- the first entry of a table of pairs of bytes (`co_lnotab`; `co_linetable` of 3.10)
 abbrev pub pair_entry : TableForm → List ℕ → Option Entry
 pair_entry form [] = None
 pair_entry form (covers ∷ []) = None
@@ -64,6 +65,7 @@ first_entry Pairs table = pair_entry Pairs table
 first_entry Ranges table = pair_entry Ranges table
 first_entry Locations table = location_entry table
 
+-- an entry, where there is one, and those behind it
 abbrev pub entries_from : Option Entry → (Entry → List Entry) → List Entry
 entries_from None rest = []
 entries_from (Some e) rest = e ∷ rest e
@@ -74,6 +76,7 @@ entries_within zero form table = []
 entries_within (suc most) form table =
     entries_from (first_entry form table) (λ e. entries_within most form (drop e.size table))
 
+-- the entries of a line table
 unfoldable pub entries_of : TableForm → List ℕ → List Entry
 entries_of form table = entries_within (length table) form table
 

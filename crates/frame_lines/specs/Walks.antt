@@ -10,6 +10,7 @@ use Rattle.frame_lines.specs.declared.form.TableForm.TheVariants.{UnsignedPairs,
 use Rattle.frame_lines.specs.declared.walk.Place.{Place}
 use Rattle.frame_lines.specs.Entries.{entries_of}
 
+-- an offset in bytes, with the line that is known there
 abbrev pub place : (start : ℕ) (line : ℤ) → Place
 place start line = record { start = start; line = line }
 
@@ -51,6 +52,7 @@ line_from form p (e ∷ es) offset =
 unfoldable pub line_held : TableForm → ℤ → List ℕ → ℕ → ℤ
 line_held form first table offset = line_from form (place 0 first) (entries_of form table) offset
 
+-- the line at an offset in bytes; 0 at a negative one
 abbrev pub line_at : TableForm → ℤ → List ℕ → ℤ → ℤ
 line_at form first table (pos offset) = line_held form first table offset
 line_at form first table (negsuc n) = pos 0

@@ -94,7 +94,7 @@ fn read_many<P: ProcessMemory>(
 }
 
 /// The bytes of the bytes object at an address; none where they are 2^24 and more, or one of them or of the object's
-/// record is not in memory. The one error is want of memory. At most 513 reads, each of fewer than 65536 bytes.
+/// record is not in memory. The one error is out of memory. At most 513 reads, each of fewer than 65536 bytes.
 #[tactic(auto, unfolding(crate::specs::Tables::table_at))]
 pub fn read_table<P: ProcessMemory>(
     alloc: Global,

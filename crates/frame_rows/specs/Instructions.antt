@@ -71,9 +71,11 @@ meaning_of opcode o =
 
 -- ---- what the standard says: these bytes and no more are the instruction
 
+-- two operands, and how many bytes they have together; an operand that there isn't is 0
 abbrev pub operands : (first second size : ℕ) → Operands
 operands first second size = record { first = first; second = second; size = size }
 
+-- a register, and an expression: its length and so many bytes (DWARF 5, `DW_CFA_expression`)
 pub record IsBlock (text : List ℕ) (first size : ℕ) : Type 0 where
   pub one : List ℕ
   pub is_first : IsUnsigned one first
@@ -91,6 +93,7 @@ pub record IsSized (text : List ℕ) (first : ℕ) : Type 0 where
   pub long : length block ≡ first
   pub parts : text ≡ one ++ block
 
+-- two unsigned numbers, one behind the other
 pub record IsPair (text : List ℕ) (first second : ℕ) : Type 0 where
   pub one : List ℕ
   pub is_first : IsUnsigned one first
@@ -98,6 +101,7 @@ pub record IsPair (text : List ℕ) (first second : ℕ) : Type 0 where
   pub is_second : IsUnsigned two second
   pub parts : text ≡ one ++ two
 
+-- an unsigned number, and then one with a sign, as a word
 pub record IsSignedPair (text : List ℕ) (first second : ℕ) : Type 0 where
   pub one : List ℕ
   pub is_first : IsUnsigned one first
@@ -117,6 +121,7 @@ pub record IsSignedWord (text : List ℕ) (word : ℕ) : Type 0 where
 abbrev pub IsFixed : ℕ → List ℕ → ℕ → Type 0
 IsFixed size text n = (length text ≡ size) × (n ≡ little text)
 
+-- bytes are the operands that an opcode of this form has
 abbrev pub AreOperands : Form → List ℕ → ℕ → ℕ → Type 0
 AreOperands Plain text first second = (text ≡ []) × (first ≡ 0) × (second ≡ 0)
 AreOperands OneByte text first second = IsFixed 1 text first × (second ≡ 0)
@@ -161,43 +166,54 @@ IsFault bytes OtherMachine = ⊥
 
 -- ---- what a reader makes of bytes that may go on
 
+-- the operand of so many bytes at the front of some bytes
 abbrev pub fixed_operand : ℕ → List ℕ → Result Operands Flaw
 fixed_operand size rest = read_then (fixed_in size rest) (λ n. Ok (operands n.value 0 n.size))
 
+-- the one operand that is an unsigned number
 abbrev pub one_operand : List ℕ → Result Operands Flaw
 one_operand rest = read_then (unsigned_in rest) (λ first. Ok (operands first.value 0 first.size))
 
+-- the one operand that is a number with a sign, as a word
 abbrev pub signed_operand : List ℕ → Result Operands Flaw
 signed_operand rest = read_then (signed_in rest) (λ first. Ok (operands (cast_unsigned w64 first.value) 0 first.size))
 
+-- the length and so many bytes behind it, where they are all there
 abbrev pub sized_within : ℕ → Number → Result Operands Flaw
 sized_within len first =
     if nat_lt (len - first.size) first.value then Err Cut else Ok (operands first.value 0 (first.size + first.value))
 
+-- the operand that is an expression: its length, and so many bytes
 abbrev pub sized_operands : List ℕ → Result Operands Flaw
 sized_operands rest = read_then (unsigned_in rest) (sized_within (length rest))
 
+-- a register, a length and so many bytes behind it, where they are all there
 abbrev pub block_within : ℕ → Number → Number → Result Operands Flaw
 block_within len first size =
     if nat_lt (len - (first.size + size.size)) size.value then Err Cut
     else Ok (operands first.value size.value (first.size + size.size + size.value))
 
+-- what goes on with the unsigned number behind a first one
 abbrev pub second_then : List ℕ → Number → (Number → Result Operands Flaw) → Result Operands Flaw
 second_then rest first f = read_then (unsigned_in (drop first.size rest)) f
 
+-- a register, and an expression: its length, and so many bytes
 abbrev pub block_operands : List ℕ → Result Operands Flaw
 block_operands rest = read_then (unsigned_in rest) (λ first.
     second_then rest first (block_within (length rest) first))
 
+-- the two operands that are unsigned numbers
 abbrev pub two_operands : List ℕ → Result Operands Flaw
 two_operands rest = read_then (unsigned_in rest) (λ first.
     second_then rest first (λ second. Ok (operands first.value second.value (first.size + second.size))))
 
+-- an unsigned number, and one with a sign, as a word
 abbrev pub signed_operands : List ℕ → Result Operands Flaw
 signed_operands rest = read_then (unsigned_in rest) (λ first.
     read_then (signed_in (drop first.size rest)) (λ second.
     Ok (operands first.value (cast_unsigned w64 second.value) (first.size + second.size))))
 
+-- the operands of a form at the front of some bytes, or why there are none
 unfoldable pub operands_in : Form → List ℕ → Result Operands Flaw
 operands_in Plain rest = Ok (operands 0 0 0)
 operands_in OneByte rest = fixed_operand 1 rest
@@ -210,13 +226,16 @@ operands_in OneSigned rest = signed_operands rest
 operands_in Sized rest = sized_operands rest
 operands_in Block rest = block_operands rest
 
+-- the instruction that an opcode is with its operands, and how many bytes it has
 abbrev pub read_of : ℕ → Operands → Result Read Flaw
 read_of opcode o = Ok (record { instruction = meaning_of opcode o; size = 1 + o.size })
 
+-- the instruction of an opcode by its form; without a form the opcode is not known
 abbrev pub formed_in : ℕ → List ℕ → Option Form → Result Read Flaw
 formed_in opcode rest None = Err (Unknown opcode)
 formed_in opcode rest (Some form) = read_then (operands_in form rest) (read_of opcode)
 
+-- the instruction at the front of some bytes, or why there is none
 unfoldable pub instruction_in : List ℕ → Result Read Flaw
 instruction_in [] = Err Cut
 instruction_in (opcode ∷ rest) = formed_in opcode rest (form_of opcode)

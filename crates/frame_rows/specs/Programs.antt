@@ -40,19 +40,23 @@ abbrev pub moved : Frame → ℕ → ℕ → Option ℕ
 moved frame location delta =
     if nat_le (location + delta * frame.code) frame.address then Some (location + delta * frame.code) else None
 
+-- how a program goes behind an advance: on, or it has arrived where that passes the address
 abbrev pub advanced : State → Option ℕ → Course
 advanced s None = Arrived s.row
 advanced s (Some location) = Going (record s { location = location })
 
+-- how a program goes behind `DW_CFA_remember_state`: refused where no more rows can be remembered
 abbrev pub remembers : ℕ → ℕ → State → Course
 remembers most at s =
     if nat_lt (length s.remembered) most then Going (record s { remembered = s.row ∷ s.remembered })
     else Refused at TooManyRemembered
 
+-- behind `DW_CFA_restore_state`: with the newest remembered row; refused where there is none
 abbrev pub recalls : ℕ → State → List Row → Course
 recalls at s [] = Refused at NothingRemembered
 recalls at s (row ∷ others) = Going (record s { row = row; remembered = others })
 
+-- how a program goes behind a change of its row; refused where that is flawed
 abbrev pub changes : ℕ → State → Result Row Flaw → Course
 changes at s (Ok row) = Going (record s { row = row })
 changes at s (Err flaw) = Refused at flaw
@@ -107,6 +111,7 @@ ended (Broken at flaw) (Going s) = Refused at flaw
 ended (Broken at flaw) (Arrived row) = Arrived row
 ended (Broken at flaw) (Refused place cause) = Refused place cause
 
+-- how a program goes by its instructions and how they end
 unfoldable pub course_of : Frame → ℕ → Course → List Placed → Ending → Course
 course_of frame most course list ending = ended ending (fold (then_does frame most) course list)
 
@@ -117,6 +122,7 @@ abbrev pub AreKept : List Row → List Row → Type 0
 AreKept kept [] = Unit {0}
 AreKept kept (row ∷ others) = (slice_index_or kept (length others) row ≡ row) × AreKept kept others
 
+-- a reader's walk is at this state, with the remembered rows in its slice
 pub record Holds (kept : List Row) (walk : Walk) (s : State) : Type 0 where
   pub location : walk.location ≡ s.location
   pub row : walk.row ≡ s.row

@@ -44,6 +44,7 @@ abbrev pub with_rule : Machine → Row → ℕ → Option Rule → Row
 with_rule machine row register rule =
     if nat_lt register (registers_of machine) then record row { rules = slice_set row.rules register rule } else row
 
+-- a row whose CFA is a register and an offset
 abbrev pub with_cfa : Row → ℕ → ℕ → Row
 with_cfa row register offset = record row { cfa = Some (Based register offset) }
 
@@ -53,6 +54,7 @@ cfa_then None f = Err NoCfa
 cfa_then (Some (Based register offset)) f = Ok (f register offset)
 cfa_then (Some (SaidCfa start end)) f = Err NoCfa
 
+-- a row with another offset of its CFA, where that is a register and an offset
 abbrev pub with_offset : Row → ℕ → Result Row Flaw
 with_offset row offset = cfa_then row.cfa (λ register former. with_cfa row register offset)
 
@@ -60,6 +62,7 @@ with_offset row offset = cfa_then row.cfa (λ register former. with_cfa row regi
 abbrev pub start_of : (size end : ℕ) → Result ℕ Flaw
 start_of size end = if nat_lt longest_expression size then Err LongExpression else Ok (end - size)
 
+-- the row by where an expression starts, where that is short enough
 abbrev pub start_then : Result ℕ Flaw → (ℕ → Row) → Result Row Flaw
 start_then (Ok start) f = Ok (f start)
 start_then (Err flaw) f = Err flaw

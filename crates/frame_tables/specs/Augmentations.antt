@@ -57,6 +57,7 @@ lettered body letters block =
     (letters_from (take block.end body) letters (record { encoding = 0; is_signal = false; next = block.start }))
     (λ m. Ok (record { is_sized = true; encoding = m.encoding; is_signal = m.is_signal; end = block.end }))
 
+-- the augmentation of a text that begins with `z`: its data have a size, and its other letters say what they are
 abbrev pub augmentation_in : List ℕ → List ℕ → ℕ → Result Augmentation RecordFlaw
 augmentation_in body letters at = read_then (block_at body at) (lettered body letters)
 

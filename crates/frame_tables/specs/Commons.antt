@@ -24,6 +24,7 @@ abbrev pub version_in : List ℕ → Result ℕ RecordFlaw
 version_in body = read_then (u32_at body 0) (λ id.
     if id == 0 then read_then (byte_at body 4) version_of else Err NotCommon)
 
+-- where the text ends, from the front of the record, where a nul ends it
 abbrev pub end_of : Option ℕ → Result ℕ RecordFlaw
 end_of None = Err Cut
 end_of (Some size) = Ok (5 + size)
@@ -61,6 +62,7 @@ admitted factors said =
     if said.encoding == 3 || said.encoding == 27 then Ok (record { factors = factors; said = said })
     else Err (Encoding said.encoding)
 
+-- what stands behind the text of an augmentation
 abbrev pub common_behind : List ℕ → (version end : ℕ) → Result Common RecordFlaw
 common_behind body version end =
     read_then (sizes_behind body version (end + 1)) (λ at.

@@ -28,27 +28,34 @@ abbrev pub read_then : {T U : Type 0} → Result T RecordFlaw → (T → Result 
 read_then (Ok x) f = f x
 read_then (Err flaw) f = Err flaw
 
+-- a flaw of a number as one of its record: it is cut, or too long
 abbrev pub record_flaw : Flaw → RecordFlaw
 record_flaw CutNumber = Cut
 record_flaw other = LongNumber
 
+-- the byte at a place of a record
 abbrev pub byte_at : List ℕ → ℕ → Result ℕ RecordFlaw
 byte_at body at = if nat_le (length body) at then Err Cut else Ok (slice_index_or body at 0)
 
+-- the four bytes at a place of a record as a number, the lowest first
 abbrev pub u32_at : List ℕ → ℕ → Result ℕ RecordFlaw
 u32_at body at = if nat_lt (length body) (at + 4) then Err Cut else Ok (u32_in body at)
 
+-- a number that was read at a place, and where the next field begins
 abbrev pub field_of : ℕ → Result Number Flaw → Result Field RecordFlaw
 field_of at (Ok n) = Ok (record { value = n.value; next = at + n.size })
 field_of at (Err flaw) = Err (record_flaw flaw)
 
+-- the unsigned LEB128 number at a place of a record
 abbrev pub unsigned_at : List ℕ → ℕ → Result Field RecordFlaw
 unsigned_at body at = field_of at (unsigned_in (drop at body))
 
+-- a number with a sign that was read at a place, and where the next field begins
 abbrev pub signed_field_of : ℕ → Result SignedNumber Flaw → Result SignedField RecordFlaw
 signed_field_of at (Ok n) = Ok (record { value = n.value; next = at + n.size })
 signed_field_of at (Err flaw) = Err (record_flaw flaw)
 
+-- the signed LEB128 number at a place of a record
 abbrev pub signed_at : List ℕ → ℕ → Result SignedField RecordFlaw
 signed_at body at = signed_field_of at (signed_in (drop at body))
 

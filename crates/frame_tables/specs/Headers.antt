@@ -23,6 +23,7 @@ use Rattle.frame_tables.specs.declared.part.Part.{Part}
 use Rattle.frame_tables.specs.Parts.{part_at}
 use Rattle.frame_tables.specs.Fields.{relative}
 
+-- the machine of an ELF file, where its frames are read
 abbrev pub machine_for : ElfMachine → Option Machine
 machine_for ElfX86_64 = Some X86_64
 machine_for ElfAarch64 = Some Aarch64
@@ -48,6 +49,7 @@ coded file at =
     else Err (FrameEncoding (slice_index_or file (at + 1) 0))
     else Err (Version (slice_index_or file at 0))
 
+-- what goes on with a value that was read
 abbrev pub table_then : {T U : Type 0} → Result T TableError → (T → Result U TableError) → Result U TableError
 table_then (Ok x) f = f x
 table_then (Err error) f = Err error
@@ -64,14 +66,17 @@ heading_in file machine address p =
     if nat_lt (p.end - p.start) 12 then Err Cut
     else table_then (coded file p.start) (λ u. counted machine address p (u32_in file (p.start + 8)))
 
+-- the header at an address, where the file has its bytes
 abbrev pub heading_at : List ℕ → Machine → ℕ → Option Part → Result Heading TableError
 heading_at file machine address None = Err NotInFile
 heading_at file machine address (Some p) = heading_in file machine address p
 
+-- what the header in a PT_GNU_EH_FRAME segment says, where the file has one
 abbrev pub heading_by : List ℕ → Machine → Option Segment → Result Heading TableError
 heading_by file machine None = Err NoHeader
 heading_by file machine (Some s) = heading_at file machine s.addr (part_at file s.addr)
 
+-- what the header of a file of this machine says, where its frames are read
 abbrev pub heading_for : List ℕ → Option Machine → Result Heading TableError
 heading_for file None = Err OtherMachine
 heading_for file (Some machine) = heading_by file machine (find is_header (segments_of file))
@@ -93,6 +98,7 @@ pair_at file h number = record {
 
 -- ---- a file's table
 
+-- the file itself, where its header can be read
 abbrev pub opened : List ℕ → Result Heading TableError → Result (List ℕ) TableError
 opened file (Ok h) = Ok file
 opened file (Err error) = Err error

@@ -31,6 +31,7 @@ sized p size =
 abbrev pub body_in : List ℕ → Part → Result Part RecordFlaw
 body_in file p = if nat_lt (p.end - p.start) 4 then Err Cut else sized p (u32_in file p.start)
 
+-- the bytes of a record behind its length, where the file has it
 abbrev pub body_at : List ℕ → Option Part → Result Part RecordFlaw
 body_at file None = Err NotInFile
 body_at file (Some p) = body_in file p
@@ -39,15 +40,18 @@ body_at file (Some p) = body_in file p
 abbrev pub record_at : List ℕ → ℕ → Result Part RecordFlaw
 record_at file address = body_at file (part_at file address)
 
+-- the bytes of a part of the file
 abbrev pub bytes_of : List ℕ → Part → List ℕ
 bytes_of file p = slice_range file p.start p.end
 
 -- ---- a common information entry
 
+-- a common information entry, and where in the file its initial instructions stand
 abbrev pub placed_in : Part → Common → Result Placed RecordFlaw
 placed_in body common =
     Ok (record { common = common; initial = record { start = body.start + common.said.end; end = body.end } })
 
+-- the common information entry at an address
 abbrev pub common_at : List ℕ → ℕ → Result Placed RecordFlaw
 common_at file address =
     read_then (record_at file address) (λ body. read_then (common_in (bytes_of file body)) (placed_in body))
@@ -63,6 +67,7 @@ own_start body true = read_then (block_at body 12) (λ block. Ok block.end)
 abbrev pub begin_of : (encoding at first : ℕ) → ℕ
 begin_of encoding at first = if encoding == 27 then relative ((at + 8) % 2 ^ 64) first else first
 
+-- what a function's entry covers, and where its own instructions begin
 abbrev pub extent_in : List ℕ → ℕ → Common → Result Extent RecordFlaw
 extent_in body at common =
     read_then (u32_at body 4) (λ first.
@@ -70,6 +75,7 @@ extent_in body at common =
     read_then (own_start body common.said.is_sized) (λ start.
     Ok (record { begin = begin_of common.said.encoding at first; size = size; start = start }))))
 
+-- the entry at an address, of these parts
 abbrev pub entry_of : Machine → ℕ → Part → Placed → Extent → Entry
 entry_of machine at body p extent = record {
   at = at;
@@ -82,10 +88,12 @@ entry_of machine at body p extent = record {
   own = record { start = body.start + extent.start; end = body.end };
 }
 
+-- the entry by the bytes of its record and its common information entry
 abbrev pub entry_in : List ℕ → Machine → ℕ → Part → Placed → Result Entry RecordFlaw
 entry_in file machine at body p =
     read_then (extent_in (bytes_of file body) at p.common) (λ extent. Ok (entry_of machine at body p extent))
 
+-- the id of an entry: how far before it its common information entry is. 0 is the id of such a one itself
 abbrev pub id_in : List ℕ → Result ℕ RecordFlaw
 id_in body = read_then (u32_at body 0) (λ id. if id == 0 then Err NoEntry else Ok id)
 
@@ -94,6 +102,7 @@ abbrev pub located : {T : Type 0} → ℕ → Result T RecordFlaw → Result T R
 located at (Ok x) = Ok x
 located at (Err flaw) = Err (record { at = at; flaw = flaw })
 
+-- what goes on with a value that was read
 abbrev pub placed_then : {T U : Type 0} → Result T RecordError → (T → Result U RecordError) → Result U RecordError
 placed_then (Ok x) f = f x
 placed_then (Err error) f = Err error
@@ -102,6 +111,7 @@ placed_then (Err error) f = Err error
 abbrev pub common_of : (at id : ℕ) → ℕ
 common_of at id = ((at + 4) % 2 ^ 64 + (2 ^ 64 - id)) % 2 ^ 64
 
+-- the entry by its id, where its common information entry can be read
 abbrev pub entry_behind : List ℕ → Machine → ℕ → Part → ℕ → Result Entry RecordError
 entry_behind file machine at body id =
     placed_then (located (common_of at id) (common_at file (common_of at id))) (λ p.

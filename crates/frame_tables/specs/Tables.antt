@@ -14,6 +14,7 @@ use Rattle.frame_tables.specs.Records.{entry_at}
 
 -- ---- what a table holds
 
+-- a file of which this is the table's header, and that has all of its pairs
 pub record IsTable (file elf : List ℕ) (h : Heading) : Type 0 where
   pub same : elf ≡ file
   pub heading : heading_of file ≡ Ok h
@@ -32,6 +33,7 @@ pub record Covers (address : ℕ) (entry : Entry) : Type 0 where
   pub begins : entry.begin ≤ address
   pub ends : address < entry.begin + entry.size
 
+-- whether an address lies in an entry
 abbrev pub covers : ℕ → Entry → Bool
 covers address entry = nat_le entry.begin address && nat_lt (address - entry.begin) entry.size
 
@@ -43,6 +45,7 @@ covering address entry = if covers address entry then Some entry else None
 abbrev pub entry_of : List ℕ → Heading → ℕ → Result Entry RecordError
 entry_of file h number = entry_at file h.machine (pair_at file h number).place
 
+-- an entry that was read is there; a flawed one is the error
 abbrev pub there : Result Entry RecordError → Result (Option Entry) RecordError
 there (Ok entry) = Ok (Some entry)
 there (Err error) = Err error
@@ -53,6 +56,7 @@ numbered file h number = if nat_le h.count number then Ok None else there (entry
 
 -- ---- the answer
 
+-- the entry that was read, if it covers the address
 abbrev pub covered : ℕ → Result Entry RecordError → Result (Option Entry) RecordError
 covered address (Ok entry) = Ok (covering address entry)
 covered address (Err error) = Err error
@@ -93,6 +97,7 @@ pub record IsTidyBy (file : List ℕ) (h : Heading) : Type 0 where
   pub ends : (j k : ℕ) (entry : Entry) → j < k → k < h.count → entry_of file h j ≡ Ok entry
       → entry.begin + entry.size ≤ (pair_at file h k).first
 
+-- a table whose first addresses ascend and whose entries don't overlap
 abbrev pub IsTidy : List ℕ → Type 0
 IsTidy file = (h : Heading) → heading_of file ≡ Ok h → IsTidyBy file h
 

@@ -19,6 +19,7 @@ heads_at p base = record {
   permanent = capped (base + p.permanent);
 }
 
+-- the heads of the four lists of a collector
 abbrev pub heads_in : Heads → List ℕ
 heads_in h = h.youngest ∷ h.middle ∷ h.oldest ∷ h.permanent ∷ []
 
@@ -28,17 +29,21 @@ heads_of p bases = flat_map (λ base. heads_in (heads_at p base)) bases
 
 -- ---- whether they stand there
 
+-- whether a head's back link names this one
 abbrev pub backs : Option Links → ℕ → Bool
 backs (Some l) head = nat_eq l.back head
 backs None head = false
 
+-- whether a head's link to the next names this one
 abbrev pub leads : Option Links → ℕ → Bool
 leads (Some l) head = nat_eq l.next head
 leads None head = false
 
+-- whether the members beside a head name it
 abbrev pub is_named : (after before : Option Links) → ℕ → Bool
 is_named after before head = backs after head || leads before head
 
+-- whether a head's neighbours name it, where its links can be read
 abbrev pub held_by : Option Links → (ℕ → Option Links) → ℕ → Bool
 held_by (Some l) links head = is_named (links l.next) (links l.back) head
 held_by None links head = false
@@ -53,5 +58,6 @@ unfoldable pub first_unheld : (ℕ → Option Links) → List ℕ → Option ℕ
 first_unheld links [] = None
 first_unheld links (h ∷ hs) = if is_held links h then first_unheld links hs else Some h
 
+-- the first head that its neighbours don't name, where heads are checked (from 3.13 on)
 abbrev pub unheld : ListPlaces → (ℕ → Option Links) → Heads → Option ℕ
 unheld p links own = if p.heads_are_checked then first_unheld links (heads_in own) else None

@@ -8,6 +8,7 @@ use Rattle.gc_lists.specs.declared.links.Links.{Links}
 abbrev pub links_in : (mask : ℕ) → List ℕ → Links
 links_in mask bytes = record { next = bit_and (u64_in bytes 0) mask; back = bit_and (u64_in bytes 8) mask }
 
+-- the links of a member, where they can be read
 abbrev pub links_by : (mask : ℕ) → Found (List ℕ) → Option Links
 links_by mask (Ok bytes) = Some (links_in mask bytes)
 links_by mask (Err f) = None

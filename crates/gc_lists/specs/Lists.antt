@@ -27,6 +27,7 @@ pub data Told : Type 0 where
   AreHere : Four → Told
   Elsewhere : (head : ℕ) → Told
 
+-- the four lists of a collector, as they were read
 abbrev pub four_of : Lists → Four
 four_of l = record {
   collecting = l.collecting;
@@ -36,10 +37,12 @@ four_of l = record {
   permanent = listing_of l.permanent;
 }
 
+-- the lists that were read, or the head that shows that they stand elsewhere
 abbrev pub told_of : Collected → Told
 told_of (collected.Lists lists) = AreHere (four_of lists)
 told_of (collected.Elsewhere head) = Elsewhere head
 
+-- whether a number of four bytes isn't 0, where it can be read
 abbrev pub is_set : Found (List ℕ) → Option Bool
 is_set (Ok bytes) = Some (not (nat_eq (u32_in bytes 0) 0))
 is_set (Err f) = None
@@ -61,6 +64,7 @@ pub record AreListed (links : ℕ → Option Links) (heads : List ℕ) (own : He
   pub oldest : Listed links heads most_members own.oldest four.oldest
   pub permanent : Listed links heads most_members own.permanent four.permanent
 
+-- the lists are told, or the first head that isn't one of a list
 abbrev pub IsToldBy : Option ℕ → (Four → Type 0) → Told → Type 0
 IsToldBy None are (AreHere four) = are four
 IsToldBy None are (Elsewhere head) = ⊥
@@ -76,9 +80,11 @@ IsTold p bases m base told = IsToldBy (unheld p (links_at p.mask m) (heads_at p 
 abbrev pub Headed : Type 0
 Headed = ℕ × List ℕ
 
+-- two lists with different heads have no member in common
 abbrev pub IsApartFrom : Headed → Headed → Type 0
 IsApartFrom x y = x.0 ≢ y.0 → AreApart x.1 y.1
 
+-- a list has no member in common with those of other heads
 abbrev pub IsApartFromAll : Headed → List Headed → Type 0
 IsApartFromAll x [] = ⊤
 IsApartFromAll x (y ∷ ys) = IsApartFrom x y × IsApartFromAll x ys
@@ -88,16 +94,19 @@ abbrev pub AreAllApart : List Headed → Type 0
 AreAllApart [] = ⊤
 AreAllApart (x ∷ xs) = IsApartFromAll x xs × AreAllApart xs
 
+-- the four lists, each with its head
 abbrev pub headed : Heads → Four → List Headed
 headed own f = (own.youngest, f.youngest.members) ∷ (own.middle, f.middle.members) ∷ (own.oldest, f.oldest.members)
     ∷ (own.permanent, f.permanent.members) ∷ []
 
+-- no two of the four lists have a member in common
 abbrev pub ArePairsApart : Heads → Told → Type 0
 ArePairsApart own (AreHere four) = AreAllApart (headed own four)
 ArePairsApart own (Elsewhere head) = ⊤
 
 -- ---- the same, as it is read
 
+-- the four lists of a collector, as memory has them
 abbrev pub four_at : (ℕ → Option Links) → List ℕ → Heads → Option Bool → Four
 four_at links heads own collecting = record {
   collecting = collecting;
@@ -107,10 +116,12 @@ four_at links heads own collecting = record {
   permanent = list_at links heads most_members own.permanent;
 }
 
+-- the lists, or the head that shows that they stand elsewhere
 abbrev pub told_by : Option ℕ → Four → Told
 told_by None four = AreHere four
 told_by (Some head) four = Elsewhere head
 
+-- what is told of the lists of a collector at an address
 abbrev pub told_at : ListPlaces → (bases : List ℕ) → Memory → (base : ℕ) → Told
 told_at p bases m base = told_by (unheld p (links_at p.mask m) (heads_at p base))
     (four_at (links_at p.mask m) (all_heads p bases base) (heads_at p base) (collecting_at p m base))
@@ -127,10 +138,12 @@ abbrev pub lists_reads : {E : Type 0} → (more : ℕ) → Result Lists E → �
 lists_reads more (Ok lists) = members_in lists + more
 lists_reads more (Err e) = 4 * most_members + more
 
+-- how many members were read
 abbrev pub members_of : Collected → ℕ
 members_of (collected.Lists lists) = members_in lists
 members_of (collected.Elsewhere head) = 0
 
+-- at most how many reads the lists take: one for each member, and 21
 abbrev pub collected_reads : {E : Type 0} → Result Collected E → ℕ
 collected_reads (Ok found) = members_of found + 21
 collected_reads (Err e) = 4 * most_members + 21

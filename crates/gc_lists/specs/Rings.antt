@@ -61,6 +61,7 @@ pub record IsRing (links : ℕ → Option Links) (heads : List ℕ) (limit head 
     pub within : length list.members ≤ limit
     pub ends : EndsAt links heads head first.back (limit - length list.members) last to list.end
 
+-- a list from its head on, where the head's links can be read
 abbrev pub IsListedBy : Option Links → (ℕ → Option Links) → List ℕ → (limit head : ℕ) → Listing → Type 0
 IsListedBy None links heads limit head list = (list.members ≡ []) × (list.end ≡ Unreadable head)
 IsListedBy (Some first) links heads limit head list = IsRing links heads limit head first list
@@ -75,10 +76,12 @@ AreApart xs ys = (a : ℕ) → Contains xs a → Contains ys a → ⊥
 
 -- ---- the same, as it is read
 
+-- an end for the limit of members, unless the list ends here
 abbrev pub cut_by : (at : ℕ) → Turn → Listing
 cut_by at (Member next) = record { members = []; end = Cut at }
 cut_by at (Stops end) = record { members = []; end = end }
 
+-- a member and what follows it, or the list's end
 abbrev pub go_by : (at : ℕ) → Turn → (ℕ → Listing) → Listing
 go_by at (Member next) rest = let l = rest next in record { members = at ∷ l.members; end = l.end }
 go_by at (Stops end) rest = record { members = []; end = end }
@@ -88,10 +91,12 @@ unfoldable pub list_from : (turn : ℕ → ℕ → Turn) → (left before at : �
 list_from turn zero before at = cut_by at (turn before at)
 list_from turn (suc left) before at = go_by at (turn before at) (λ next. list_from turn left at next)
 
+-- a list from its head on; none where the head's links can't be read
 abbrev pub list_by : Option Links → (ℕ → Option Links) → List ℕ → (limit head : ℕ) → Listing
 list_by None links heads limit head = record { members = []; end = Unreadable head }
 list_by (Some first) links heads limit head =
     list_from (turn_at links heads head first.back) limit head first.next
 
+-- the list of a head, by the links that memory has
 abbrev pub list_at : (ℕ → Option Links) → List ℕ → (limit head : ℕ) → Listing
 list_at links heads limit head = list_by (links head) links heads limit head

@@ -26,6 +26,7 @@ abbrev pub turn_by : Option Links → (before at : ℕ) → Turn
 turn_by None before at = Stops (Unreadable at)
 turn_by (Some l) before at = if nat_eq l.back before then Member l.next else Stops (Torn at)
 
+-- a turn, unless something has ended the list before
 abbrev pub turn_past : Option ListEnd → Turn → Turn
 turn_past (Some end) turn = Stops end
 turn_past None turn = turn

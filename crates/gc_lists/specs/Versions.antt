@@ -9,6 +9,7 @@ use Rattle.gc_lists.specs.declared.places.ListPlaces.{ListPlaces}
 abbrev pub all_but_two : ℕ
 all_but_two = 2 ^ 64 - 4
 
+-- where 3.7 has the collector's lists (`_PyRuntimeState.gc`)
 abbrev pub runtime_of_3_7 : ListPlaces
 runtime_of_3_7 = record {
   home = Runtime;
@@ -21,6 +22,7 @@ runtime_of_3_7 = record {
   heads_are_checked = false;
 }
 
+-- where 3.8 has the collector's lists (`_PyRuntimeState.gc`)
 abbrev pub runtime_of_3_8 : ListPlaces
 runtime_of_3_8 = record {
   home = Runtime;
@@ -46,6 +48,7 @@ in_interpreter generations checked = record {
   heads_are_checked = checked;
 }
 
+-- where Python 3 has the collector's lists, by its minor version
 abbrev pub places_of_3 : (minor : ℕ) → Option ListPlaces
 places_of_3 minor =
     if nat_eq minor 7 then Some runtime_of_3_7

@@ -3,6 +3,7 @@ use Rattle.std.specs.Prelude.{◌+◌, ℕ, length, Result, Ok, Err}
 use Rattle.gc_lists.specs.declared.walk.GcList.{GcList}
 use Rattle.gc_lists.specs.Rings.{Listing}
 
+-- a list that was read, with its end
 abbrev pub listing_of : GcList → Listing
 listing_of list = record { members = list.members.items; end = list.end }
 

@@ -129,7 +129,7 @@ fn read_told<P: ProcessMemory>(
 /// as `read_list` has it, and no two of them have a member in common, where their heads stand apart. Where heads are to
 /// be checked and one isn't the head of a list, the answer is `Elsewhere` with the first such.
 ///
-/// There is one such answer alone. The one error is want of memory. At most one read of each member, and 21 more.
+/// There is one such answer alone. The one error is out of memory. At most one read of each member, and 21 more.
 pub fn read_lists<P: ProcessMemory>(
     alloc: Global,
     process: &mut P,

@@ -85,7 +85,7 @@ pub(crate) fn read_ring<P: ProcessMemory>(
 /// and how the list ends. `mask` has the bits of a link that make the address.
 ///
 /// There is one such list alone, and it is the answer. No member is there twice, and none is in the list of another one
-/// of the heads. The one error is want of memory. At most one read of each member, and two more.
+/// of the heads. The one error is out of memory. At most one read of each member, and two more.
 pub fn read_list<P: ProcessMemory>(
     alloc: Global,
     process: &mut P,

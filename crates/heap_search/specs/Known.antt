@@ -23,6 +23,7 @@ code_class_at l m frame = records_at l m frame >>= class_of_code l m
 unfoldable pub newest_class_at : Layout → Memory → (thread : List ℕ) → Found ℕ
 newest_class_at l m thread = first_frame_at l m thread >>= code_class_at l m
 
+-- whether a word that was found is this class's address
 abbrev pub is_class : (class : ℕ) → Found ℕ → Bool
 is_class class (Ok found) = nat_eq found class
 is_class class (Err f) = false
@@ -36,6 +37,7 @@ abbrev pub is_known_by : Layout → Memory → (pointers : List ℕ) → (class 
 is_known_by l m pointers class thread =
     is_among pointers (u64_in thread l.thread.id) && is_class class (newest_class_at l m thread)
 
+-- whether the core's notes confirm a thread that was read
 abbrev pub is_known_in : Layout → Memory → (pointers : List ℕ) → (class : ℕ) → Found (List ℕ) → Bool
 is_known_in l m pointers class (Ok thread) = is_known_by l m pointers class thread
 is_known_in l m pointers class (Err f) = false

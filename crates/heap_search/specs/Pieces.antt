@@ -17,9 +17,11 @@ words_limit = 16777216
 abbrev pub piece_limit : ℕ
 piece_limit = 512
 
+-- at most how many pieces of the heap are looked at
 abbrev pub pieces_limit : ℕ
 pieces_limit = 32768
 
+-- whether a segment may hold the heap: it is writable and of no file
 abbrev pub is_heap : CoreMapRange → Bool
 is_heap s = nat_eq (s.segment.flags / 2 % 2) 1 && is_none s.pathname
 
@@ -51,6 +53,7 @@ is_cut left (s ∷ rest) = nat_lt (share left s) (words_of s) || is_cut (left - 
 
 -- ---- the words
 
+-- the words of a piece that are in memory
 abbrev pub piece_there : Memory → HeapPiece → List ℕ
 piece_there m p = words_there m p.at p.count
 

@@ -37,6 +37,7 @@ shown_by machine k v l m q limit crash segments looked s = record {
   crash = crash;
 }
 
+-- what the search of the heap finds, where the type of code is known; else what was there before
 abbrev pub searched_if : (ℕ → Bool) → Machine → Known → Version → Layout → Memory → Asked → (limit : ℕ) → Option Crash
     → List CoreMapRange → (pointers : List ℕ) → (class : Option ℕ) → SalvagedShown → SalvagedShown
 searched_if contains machine k v l m q limit crash segments pointers None first = first

@@ -37,6 +37,7 @@ known_at contains l m pointers class a = record {
   members = chain_length l m a (headed_at contains l m a);
 }
 
+-- the interpreters found so far, with the one that a word leads to
 abbrev pub finds_with : (ℕ → Bool) → Layout → Memory → (pointers : List ℕ) → (class : ℕ) → Finds → ℕ → Finds
 finds_with contains l m pointers class r a =
     if is_found r.found a then r else with_head r true a (taken_head contains l m pointers class a)
@@ -60,6 +61,7 @@ after_looks contains l m pointers class s [] = s
 after_looks contains l m pointers class s (a ∷ rest) =
     after_looks contains l m pointers class (look_within contains l m pointers class s a) rest
 
+-- a search before its first word
 abbrev pub nothing_yet : Search
 nothing_yet = record { finds = none_found; addresses = 0; members = 0 }
 
@@ -82,6 +84,7 @@ looked_by maps s = record {
 
 -- ---- as it is read
 
+-- a search as contracts see it
 abbrev pub search_of : HeapSearch → Search
 search_of s = record { finds = finds_of s.finds; addresses = s.addresses; members = s.members }
 
@@ -90,6 +93,7 @@ abbrev pub Looks : Search → HeapSearch → Result (Unit {0}) StackError → Ty
 Looks wanted new (Ok u) = search_of new ≡ wanted
 Looks wanted new (Err e) = e ≡ OutOfMemory
 
+-- a result with a search
 abbrev pub search_result : {E : Type 0} → Result HeapSearch E → Result Search E
 search_result (Ok s) = Ok (search_of s)
 search_result (Err e) = Err e

@@ -26,6 +26,7 @@ abbrev pub sets_line : Bool → List ℕ
 sets_line true = []
 sets_line false = codes "    tables of sets are not counted: no symbol names their classes\n"
 
+-- the line that says that a collection runs; none where none does, or it isn't known
 abbrev pub collecting_line : Option Bool → List ℕ
 collecting_line (Some true) = codes "    a collection runs\n"
 collecting_line (Some false) = []
@@ -47,6 +48,7 @@ unknown_text n = if n == 0 then [] else codes ", " ++ (decimal n ++ codes " of u
 abbrev pub unread_text : ℕ → List ℕ
 unread_text n = if n == 0 then [] else codes ", " ++ (decimal n ++ codes " of unknown other blocks")
 
+-- how many objects there are, and their own bytes
 abbrev pub size_text : (objects bytes : ℕ) → List ℕ
 size_text objects bytes = codes "    " ++ (decimal objects ++ (codes " objects, " ++ (decimal bytes ++ codes " bytes")))
 

@@ -137,7 +137,7 @@ fn push_runtime(alloc: Global, text: &mut String, told: &Option<HeapTold>) -> Re
 /// generations and the permanent one have, that tables of sets are not counted if they aren't, whether a collection
 /// runs, how each list ends that isn't whole, of how many objects the class can't be read, a line for each of the first
 /// 40 classes, behind those of the first ten their three largest objects, and how many more classes there are; or that
-/// there is no list, or that heaps are not described. The one error is want of memory.
+/// there is no list, or that heaps are not described. The one error is out of memory.
 pub fn push_heaps(alloc: Global, text: &mut String, heaps: &Heaps) -> Result<(), AllocError>
     ensures { OnOk result (string_bytes text.new ≡ string_bytes text.old ++ heaps_text heaps.now) }
 {

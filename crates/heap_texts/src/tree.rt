@@ -301,7 +301,7 @@ fn runtime_value(alloc: Global, told: &Option<HeapTold>) -> Result<Value, AllocE
 /// keys and sets' tables (`more`), of how many of them the size is `unknown` and of how many that of these blocks
 /// (`unread`); the first ten have their three `largest` objects, each with its `address` and `bytes`, the others null.
 ///
-/// The keys of an object stand in the order of their bytes. The one error is want of memory.
+/// The keys of an object stand in the order of their bytes. The one error is out of memory.
 pub fn heaps_value(alloc: Global, heaps: &Heaps) -> Result<Value, AllocError>
     ensures { IfOk result (λ value. view value ≡ heaps_tree heaps.now) }
 {

@@ -21,6 +21,7 @@ map_of name flags offset addr size = record {
   segment = record { kind = 1; flags = flags; offset = offset; addr = addr; file_size = size; mem_size = size };
 }
 
+-- its maps: the image's code, the words, and so many bytes of objects
 abbrev pub built_maps : (objects : ℕ) → List CoreMapRange
 built_maps objects = map_of (Some image_path) 5 0x1000 0x40_0000 0x2000
     ∷ map_of None 6 0x3000 0x50_0000 0x2_0000 ∷ map_of None 6 0x2_3000 0x60_0000 objects ∷ []

@@ -12,9 +12,11 @@ use Rattle.image_builder.specs.Records.{filled, record_of}
 
 -- ---- what the notes say
 
+-- the path under which the image is mapped
 abbrev pub image_path : List ℕ
 image_path = codes "/usr/bin/python3"
 
+-- the name and the arguments of the process
 abbrev pub process_name : List ℕ
 process_name = codes "python3"
 
@@ -43,6 +45,7 @@ table_fields = U64 1 ∷ U64 4096 ∷ U64 0x40_0000 ∷ U64 0x40_2000 ∷ U64 0 
 abbrev pub owner_name : List ℕ
 owner_name = codes "CORE" ++ 0 ∷ []
 
+-- the three zeros that fill the owner up to a multiple of 4 bytes (gABI, "Note Section")
 abbrev pub owner_padding : List ℕ
 owner_padding = 0 ∷ 0 ∷ 0 ∷ []
 
@@ -67,6 +70,7 @@ core_segments objects =
     ∷ record { kind = 1; flags = 6; offset = 0x3000; addr = 0x50_0000; file_size = 0x2_0000; mem_size = 0x2_0000 }
     ∷ record { kind = 1; flags = 6; offset = 0x2_3000; addr = 0x60_0000; file_size = objects; mem_size = objects } ∷ []
 
+-- the program headers of some segments
 abbrev pub segment_headers : List Segment → List ℕ
 segment_headers segments = flat_map (λ s. record_of (segment_fields s)) segments
 
@@ -75,6 +79,7 @@ unfoldable pub core_head : Machine → (objects : ℕ) → List ℕ
 core_head machine objects =
     record_of (file_fields 4 machine 4 0 0 0) ++ (segment_headers (core_segments objects) ++ core_notes)
 
+-- the bytes of the core: its first page, and then its three segments
 unfoldable pub core_file : Machine → (image words objects : List ℕ) → List ℕ
 core_file machine image words objects =
     filled 0x1000 (core_head machine (length objects)) ++ (image ++ (words ++ objects))

@@ -31,6 +31,7 @@ IsReleaseByte flags byte = ((flags ≡ []) × (byte ≡ 0xF0))
     ⊎ IsPreFinal (codes "a") 10 flags byte ⊎ IsPreFinal (codes "b") 11 flags byte
     ⊎ IsPreFinal (codes "rc") 12 flags byte
 
+-- some byte of PY_VERSION_HEX has these flags
 abbrev pub HasReleaseByte : List ℕ → Type 0
 HasReleaseByte flags = (byte : ℕ) × IsReleaseByte flags byte
 
@@ -68,10 +69,12 @@ serial_of digits = short_serial (plain_digits digits)
 abbrev pub byte_behind : ℕ → List ℕ → Option ℕ
 byte_behind level digits = option_map (λ serial. 16 * level + serial) (serial_of digits)
 
+-- the byte of a release candidate, by its flags behind the `r`
 abbrev pub candidate_byte : List ℕ → Option ℕ
 candidate_byte [] = None
 candidate_byte (c ∷ rest) = if c == 99 then byte_behind 12 rest else None
 
+-- the byte of flags, where there is one
 abbrev pub release_byte : List ℕ → Option ℕ
 release_byte [] = Some 0xF0
 release_byte (c ∷ rest) = if c == 97 then byte_behind 10 rest else (if c == 98 then byte_behind 11 rest

@@ -29,6 +29,7 @@ locals_in n =
     record { name = codes "x"; value = Single (Number (pos n)) }
     ∷ record { name = codes "y"; value = Items (Words (codes "s") ∷ Number (pos n) ∷ []) } ∷ []
 
+-- the frame at a place of a thread, the newest first
 abbrev pub frame_of : (seed thread frame : ℕ) → Frame
 frame_of seed thread frame = record {
   name = codes "f" ++ decimal (name_number seed thread frame);
@@ -44,6 +45,7 @@ frame_of seed thread frame = record {
 abbrev pub frame_count : (seed thread : ℕ) → ℕ
 frame_count seed thread = 1 + (seed % 16 + thread) % 16
 
+-- the thread of an index: its id, and 1 to 16 frames
 abbrev pub thread_of : (seed thread : ℕ) → Thread
 thread_of seed thread =
     record { id = 1000 + 16 * thread; frames = each (frame_of seed thread) (frame_count seed thread) }

@@ -5,6 +5,7 @@ use Rattle.py_process.specs.Facts.{Facts, Known}
 use Rattle.py_process.specs.SymbolMap.{address_of}
 use Rattle.image_builder.specs.CoreFiles.{image_path}
 
+-- a global symbol of data in the first section, the bss (gABI, `STB_GLOBAL`, `STT_OBJECT`)
 abbrev pub object_symbol : List ℕ → (value size : ℕ) → SymbolEntry
 object_symbol name value size = record { name = Some name; info = 17; section = 1; value = value; size = size }
 

@@ -23,18 +23,23 @@ image_segments =
 abbrev pub bss_section : Section
 bss_section = record { name = 1; kind = 8; addr = 0x50_0000; offset = 0x2000; size = 0x2_0000; link = 0 }
 
+-- the section `.symtab`: five entries of 24 bytes, whose names are in section 3
 abbrev pub symbols_section : Section
 symbols_section = record { name = 6; kind = 2; addr = 0; offset = 0x1b0; size = 120; link = 3 }
 
+-- the section `.strtab`: the names of sections and symbols
 abbrev pub strings_section : Section
 strings_section = record { name = 14; kind = 3; addr = 0; offset = 0x228; size = 79; link = 0 }
 
+-- the section of number 0, all zeros, with which the section headers begin (gABI, `SHN_UNDEF`)
 abbrev pub no_section : Section
 no_section = record { name = 0; kind = 0; addr = 0; offset = 0; size = 0; link = 0 }
 
+-- a section header of 64 bytes, by its section and the other fields
 abbrev pub section_header : Section → (flags info align entry_size : ℕ) → List ℕ
 section_header s flags info align entry_size = record_of (section_fields s flags info align entry_size)
 
+-- the four section headers
 unfoldable pub section_headers : List ℕ
 section_headers = section_header no_section 0 0 0 0 ++ (section_header bss_section 3 0 1 0
     ++ (section_header symbols_section 0 1 8 24 ++ section_header strings_section 0 0 1 0))
@@ -46,6 +51,7 @@ abbrev pub image_names : List (List ℕ)
 image_names = [] ∷ codes ".bss" ∷ codes ".symtab" ∷ codes ".strtab" ∷ codes "Py_Version" ∷ codes "_PyRuntime"
     ∷ codes "_PyThreadState_Current" ∷ codes "interp_head" ∷ []
 
+-- the string table: those names one behind the other
 unfoldable pub image_strings : List ℕ
 image_strings = flat_map (λ name. name ++ 0 ∷ []) image_names
 

@@ -4,6 +4,7 @@ use Rattle.std.specs.List.{flat_map}
 use Rattle.std.proofs.Math.ListN.{replicate}
 use Rattle.object_builder.specs.Objects.{Value, bytes_of}
 
+-- the bytes of some fields
 unfoldable pub record_of : List Value → List ℕ
 record_of fields = flat_map bytes_of fields
 

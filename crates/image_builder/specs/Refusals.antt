@@ -26,13 +26,14 @@ pub record IsNotValid (l : Layout) (v : Version) (machine : Machine) (p : Progra
   pub covered : IsCovered l v machine p.owner
   pub first : IsFirstInvalid (family_of l.lines) p (record { thread = thread; frame = frame })
 
+-- a program that could be written, but whose core could have more than 2^30 bytes: so many
 pub record HasNoSpace (l : Layout) (v : Version) (machine : Machine) (p : Program) (needed : ℕ) : Type 0 where
   pub covered : IsCovered l v machine p.owner
   pub valid : IsValidProgram (family_of l.lines) p
   pub beyond : 2 ^ 30 < needed
   pub needed_is : needed ≡ room_for l p
 
--- why a program isn't written; want of memory may come once it is covered
+-- why a program isn't written; out of memory may come once it is covered
 abbrev pub IsUnbuilt : Layout → Version → Machine → Program → BuildError → Type 0
 IsUnbuilt l v machine p Uncovered = ¬ IsCovered l v machine p.owner
 IsUnbuilt l v machine p (NotValid thread frame) = IsNotValid l v machine p thread frame

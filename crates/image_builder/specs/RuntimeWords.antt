@@ -37,12 +37,14 @@ lock_word_place SymbolLock machine v = Some 0x1_0008
 lock_word_place RuntimeLock machine v = tstate_current_offset machine v
 lock_word_place Gil machine v = None
 
+-- the words that are written: the interpreter, the runtime record's field, and the lock's holder
 abbrev pub words_writes : Layout → Machine → Version → (holder : ℕ) → List Write
 words_writes l machine v holder =
     record { at = head_place l.head v; value = U64 interpreter_at }
     ∷ optional_write (head_field l.head l.offsets) (U64 0x1_0000)
     ∷ optional_write (lock_word_place l.lock machine v) (U64 holder) ∷ []
 
+-- the 2^17 bytes of the bss, zeros but for these words
 unfoldable pub runtime_words : Layout → Machine → Version → (holder : ℕ) → List ℕ
 runtime_words l machine v holder = object 0x2_0000 (words_writes l machine v holder)
 

@@ -44,10 +44,12 @@ shown_frame c is_last f = record {
   is_shim_entry = is_last;
 }
 
+-- whether no frame follows
 abbrev pub is_none_left : List Frame → Bool
 is_none_left [] = true
 is_none_left (f ∷ fs) = false
 
+-- the frames of a thread, the newest first, the last one marked
 abbrev pub shown_frames : Config → List Frame → List Call
 shown_frames c [] = []
 shown_frames c (f ∷ fs) = shown_frame c (is_none_left fs) f ∷ shown_frames c fs
@@ -95,12 +97,15 @@ shown_report c l v p = record {
 abbrev pub unplaced_local : LocalVariable → LocalVariable
 unplaced_local v = record v { addr = 0 }
 
+-- a call with 0 for the address of each of its locals
 abbrev pub unplaced_call : Call → Call
 unplaced_call c = record c { locals = option_map (map unplaced_local) c.locals }
 
+-- a trace with 0 for the address of each local
 abbrev pub unplaced_trace : Trace → Trace
 unplaced_trace t = record t { frames = map unplaced_call t.frames }
 
+-- a report with 0 for the address of each local
 abbrev pub without_addresses : Reported → Reported
 without_addresses r = record r { traces = map unplaced_trace r.traces }
 

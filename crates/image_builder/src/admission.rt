@@ -18,7 +18,7 @@ const MOST: u64 = 1 << 30;
 
 /// Whether a core and an image can be written of a program, for a layout, a version and a machine.
 ///
-/// What may stand against it is looked at in the order of `BuildError`, want of memory aside.
+/// What may stand against it is looked at in the order of `BuildError`, out of memory aside.
 pub(crate) fn admit(
     alloc: Global,
     program: &Program,

@@ -93,7 +93,7 @@ fn lock_address(layout: &Layout, version: &Version, machine: Machine) -> u64
 /// addresses of locals aside.
 ///
 /// `Uncovered`, `NotValid` and `NoRoom` come for the causes that `BuildError` names, in that order. Else the one error
-/// is want of memory. The files are written in one pass each.
+/// is out of memory. The files are written in one pass each.
 pub fn build(
     alloc: Global,
     program: &Program,

@@ -22,7 +22,7 @@ pub(crate) fn image_path() -> &'static [u8]
     b"/usr/bin/python3"
 }
 
-/// Adds a note of Linux'. The one error is want of memory.
+/// Adds a note of Linux'. The one error is out of memory.
 #[tactic(auto, unfolding(crate::specs::CoreFiles::laid_note))]
 fn add_note(out: &mut Vec<u8>, kind: u32, desc: &[u8]) -> Result<(), AllocError>
     requires { length desc.now < 2 ^ 16 }
@@ -34,7 +34,7 @@ fn add_note(out: &mut Vec<u8>, kind: u32, desc: &[u8]) -> Result<(), AllocError>
     add_filled(out, desc, (desc.len() + 3) / 4 * 4)
 }
 
-/// A status record: signal 6, process 1. The one error is want of memory.
+/// A status record: signal 6, process 1. The one error is out of memory.
 fn status_record(alloc: Global) -> Result<Vec<u8>, AllocError>
     ensures { IfOk result (λ desc. desc.items ≡ record_of status_fields) }
 {
@@ -64,7 +64,7 @@ fn status_record(alloc: Global) -> Result<Vec<u8>, AllocError>
     Ok(desc)
 }
 
-/// A process record: process 1, with its name. The one error is want of memory.
+/// A process record: process 1, with its name. The one error is out of memory.
 #[tactic(auto, unfolding(crate::specs::CoreFiles::process_record))]
 fn process_record(alloc: Global) -> Result<Vec<u8>, AllocError>
     ensures { IfOk result (λ desc. desc.items ≡ process_record) }
@@ -87,7 +87,7 @@ fn process_record(alloc: Global) -> Result<Vec<u8>, AllocError>
     Ok(desc)
 }
 
-/// A file table: the image at its first two pages. The one error is want of memory.
+/// A file table: the image at its first two pages. The one error is out of memory.
 fn file_table(alloc: Global) -> Result<Vec<u8>, AllocError>
     ensures { IfOk result (λ desc. desc.items ≡ record_of table_fields) }
 {
@@ -105,7 +105,7 @@ fn file_table(alloc: Global) -> Result<Vec<u8>, AllocError>
     Ok(desc)
 }
 
-/// Adds the notes. The one error is want of memory.
+/// Adds the notes. The one error is out of memory.
 #[tactic(auto, unfolding(crate::specs::CoreFiles::core_notes))]
 fn add_notes(alloc: Global, out: &mut Vec<u8>) -> Result<(), AllocError>
     ensures { IfOk result (λ _. out.new.items ≡ out.old.items ++ core_notes) }
@@ -139,7 +139,7 @@ fn loaded(flags: u32, offset: u64, addr: u64, size: u64) -> Segment
     }
 }
 
-/// Adds the headers and the notes. The one error is want of memory.
+/// Adds the headers and the notes. The one error is out of memory.
 #[tactic(auto, unfolding(crate::specs::CoreFiles::core_head))]
 fn add_head(
     alloc: Global,
@@ -176,7 +176,7 @@ fn add_head(
     add_notes(alloc, out)
 }
 
-/// The core of an image, the words of its bss, and the objects. The one error is want of memory.
+/// The core of an image, the words of its bss, and the objects. The one error is out of memory.
 #[tactic(auto, unfolding(crate::specs::CoreFiles::core_file))]
 pub(crate) fn core_file(
     alloc: Global,

@@ -35,7 +35,7 @@ fn machine_number(machine: Machine) -> u16
     }
 }
 
-/// Adds the header of a file. The one error is want of memory.
+/// Adds the header of a file. The one error is out of memory.
 pub(crate) fn add_file_header(out: &mut Vec<u8>, header: FileHeader) -> Result<(), AllocError>
     ensures { IfOk result (λ _. out.new.items ≡ out.old.items
         ++ record_of (file_fields header.kind header.machine header.segments
@@ -71,7 +71,7 @@ fn alignment(kind: u32) -> u64
     if kind == NOTE { 4 } else { 4096 }
 }
 
-/// Adds the header of a segment. The one error is want of memory.
+/// Adds the header of a segment. The one error is out of memory.
 fn add_segment(out: &mut Vec<u8>, segment: &Segment) -> Result<(), AllocError>
     ensures { IfOk result (λ _. out.new.items ≡ out.old.items ++ record_of (segment_fields segment.now)) }
 {
@@ -88,7 +88,7 @@ fn add_segment(out: &mut Vec<u8>, segment: &Segment) -> Result<(), AllocError>
     add_record(out, &fields)
 }
 
-/// Adds the headers of segments. The one error is want of memory.
+/// Adds the headers of segments. The one error is out of memory.
 pub(crate) fn add_segments(out: &mut Vec<u8>, segments: &[Segment]) -> Result<(), AllocError>
     ensures { IfOk result (λ _. out.new.items ≡ out.old.items ++ segment_headers segments.now) }
 {
@@ -98,7 +98,7 @@ pub(crate) fn add_segments(out: &mut Vec<u8>, segments: &[Segment]) -> Result<()
     Ok(())
 }
 
-/// Adds the header of a section. The one error is want of memory.
+/// Adds the header of a section. The one error is out of memory.
 pub(crate) fn add_section(
     out: &mut Vec<u8>,
     section: Section,
@@ -125,7 +125,7 @@ pub(crate) fn add_section(
     add_record(out, &fields)
 }
 
-/// Adds a symbol: a global object of the first section, by where its name begins. The one error is want of memory.
+/// Adds a symbol: a global object of the first section, by where its name begins. The one error is out of memory.
 pub(crate) fn add_symbol(
     out: &mut Vec<u8>,
     name: u32,

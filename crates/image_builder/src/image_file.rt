@@ -18,7 +18,7 @@ fn strings() -> &'static [u8]
     b"\0.bss\0.symtab\0.strtab\0Py_Version\0_PyRuntime\0_PyThreadState_Current\0interp_head\0"
 }
 
-/// Adds the headers of the sections. The one error is want of memory.
+/// Adds the headers of the sections. The one error is out of memory.
 #[tactic(auto, unfolding(crate::specs::ImageFiles::section_headers))]
 fn add_sections(out: &mut Vec<u8>) -> Result<(), AllocError>
     ensures { IfOk result (λ _. out.new.items ≡ out.old.items ++ section_headers) }
@@ -61,7 +61,7 @@ fn add_sections(out: &mut Vec<u8>) -> Result<(), AllocError>
     add_section(out, strings, 0, 0, 1, 0)
 }
 
-/// Adds the symbols. The one error is want of memory.
+/// Adds the symbols. The one error is out of memory.
 #[tactic(auto, unfolding(crate::specs::ImageFiles::image_symbols))]
 fn add_symbols(out: &mut Vec<u8>) -> Result<(), AllocError>
     ensures { IfOk result (λ _. out.new.items ≡ out.old.items ++ image_symbols) }
@@ -73,7 +73,7 @@ fn add_symbols(out: &mut Vec<u8>) -> Result<(), AllocError>
     add_symbol(out, 67, 0x51_0010, 8)
 }
 
-/// Adds the headers, the symbols and the strings. The one error is want of memory.
+/// Adds the headers, the symbols and the strings. The one error is out of memory.
 #[tactic(auto, unfolding(crate::specs::ImageFiles::image_head))]
 fn add_head(out: &mut Vec<u8>, machine: Machine) -> Result<(), AllocError>
     ensures { IfOk result (λ _. out.new.items ≡ out.old.items ++ image_head machine) }
@@ -109,7 +109,7 @@ fn add_head(out: &mut Vec<u8>, machine: Machine) -> Result<(), AllocError>
     out.extend_from_slice(strings())
 }
 
-/// The image for a machine, of a version by its number. The one error is want of memory.
+/// The image for a machine, of a version by its number. The one error is out of memory.
 #[tactic(auto, unfolding(crate::specs::ImageFiles::image_file))]
 pub(crate) fn image_file(
     alloc: Global,

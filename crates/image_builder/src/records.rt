@@ -7,7 +7,7 @@ ghost use Rattle.image_builder.specs.Records.{filled, record_of};
 use object_builder::Value;
 use std::alloc::AllocError;
 
-/// Adds a field. The one error is want of memory.
+/// Adds a field. The one error is out of memory.
 #[tactic(auto, unfolding(object_builder::specs::Objects::bytes_of))]
 fn add_field(out: &mut Vec<u8>, field: Value) -> Result<(), AllocError>
     ensures { IfOk result (λ _. out.new.items ≡ out.old.items ++ bytes_of (value_of field.entry)) }
@@ -21,7 +21,7 @@ fn add_field(out: &mut Vec<u8>, field: Value) -> Result<(), AllocError>
     }
 }
 
-/// Adds a record of some fields. The one error is want of memory.
+/// Adds a record of some fields. The one error is out of memory.
 pub(crate) fn add_record(out: &mut Vec<u8>, fields: &[Value]) -> Result<(), AllocError>
     ensures { IfOk result (λ _. out.new.items ≡ out.old.items ++ record_of (map value_of fields.now)) }
 {
@@ -31,7 +31,7 @@ pub(crate) fn add_record(out: &mut Vec<u8>, fields: &[Value]) -> Result<(), Allo
     Ok(())
 }
 
-/// Adds bytes, and as many zeros as fill them up to a size. The one error is want of memory.
+/// Adds bytes, and as many zeros as fill them up to a size. The one error is out of memory.
 pub(crate) fn add_filled(out: &mut Vec<u8>, bytes: &[u8], size: usize) -> Result<(), AllocError>
     requires inside { length bytes.now ≤ size }
     requires small { size < 2 ^ 48 }

@@ -49,7 +49,7 @@ pub(crate) fn lock_word_place(lock: Lock, machine: Machine, version: &Version) -
     }
 }
 
-/// The words. The one error is want of memory.
+/// The words. The one error is out of memory.
 #[tactic(auto, unfolding(crate::specs::RuntimeWords::runtime_words))]
 pub(crate) fn runtime_words(
     alloc: Global,

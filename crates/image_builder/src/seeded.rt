@@ -121,7 +121,7 @@ fn thread_of(alloc: Global, seed: u64, thread: u32) -> Result<ProgramThread, All
 }
 
 /// The program of a seed: 256 threads with ids 1000, 1016 and so on, of 1 to 16 frames each, 2176 in all; none
-/// holds the lock. It can be written for every layout. The one error is want of memory.
+/// holds the lock. It can be written for every layout. The one error is out of memory.
 pub fn generate(alloc: Global, seed: u64) -> Result<Program, AllocError>
     ensures same { IfOk result (λ program. program_in program ≡ generated seed) }
     ensures valid { IfOk result (λ program. (family : LineFamily) → IsValidProgram family (program_in program)) }

@@ -36,7 +36,7 @@ no_core bytes NoNotes h ne is = is.noted h.1
 no_core bytes BadNote h ne is = h.1 is.notes is.entries is.found
 no_core bytes OutOfMemory h ne is = ne refl
 
--- and by one error alone, but for want of memory
+-- and by one error alone, but for out of memory
 pub one_refusal : (bytes : List ℕ) (e f : DumpError) → RefusesCore bytes e → RefusesCore bytes f → e ≢ OutOfMemory
     → f ≢ OutOfMemory → e ≡ f
 one_refusal bytes NotElf64 NotElf64 h g ne nf = refl
@@ -68,7 +68,7 @@ is_memory NoNotes = inr (λ e. absurd (cc))
 is_memory BadNote = inr (λ e. absurd (cc))
 is_memory OutOfMemory = inl refl
 
--- a right answer about some bytes is the one that they call for, or want of memory
+-- a right answer about some bytes is the one that they call for, or out of memory
 pub only_refusal : {T : Type 0} (bytes : List ℕ) (r : Result T DumpError) → IfErr r (RefusesCore bytes) → IfOk r (λ _. IsCore bytes)
     → (e : DumpError) → RefusesCore bytes e → (r ≡ Err e) ⊎ (r ≡ Err OutOfMemory) ⊎ (e ≡ OutOfMemory)
 only_refusal {T} bytes (Ok x) right core e h =

@@ -32,6 +32,7 @@ byte_place place = place.pages * place.page_size
 abbrev pub region_of_image : Segment → FilePlace → Mapped → Region
 region_of_image s place image = (s.addr, take s.mem_size (drop (byte_place place) (shown_bytes image)))
 
+-- the bytes that an image has for a segment, where an image was handed in under the entry's name
 abbrev pub region_by : Pushed → Segment → Entry → Option Region
 region_by images s entry = option_map (region_of_image s entry.place) (first_under entry.name images)
 
@@ -59,6 +60,7 @@ pub record Backed : Type 0 where
   pub images : List (List ℕ)
   pub ranges : List FileRange
 
+-- the core's bytes, and those of its images in order
 abbrev pub files_of : Backed → List (List ℕ)
 files_of dump = dump.core ∷ dump.images
 
@@ -74,6 +76,7 @@ range_in s place size = record {
   offset = min (byte_place place) size;
 }
 
+-- the addresses of a segment that an image of this number has bytes for; files are counted from the core, 0
 abbrev pub numbered_range : Pushed → Segment → FilePlace → ℕ → FileRange
 numbered_range images s place number = record {
   range = range_in s place (length (slice_index_or (images_shown images) number []));
@@ -87,9 +90,11 @@ range_named images s (Some name) None = None
 range_named images s (Some name) (Some place) =
     option_map (numbered_range images s place) (position (is_under name) images)
 
+-- the addresses that an image has bytes for: none of a segment with the write flag
 abbrev pub range_by : Pushed → Segment → Option (List ℕ) → Option FilePlace → Option FileRange
 range_by images s name place = if is_writable s then None else range_named images s name place
 
+-- the addresses that an image has bytes for, by the core's file table
 abbrev pub image_range : Pushed → List Entry → Segment → Option FileRange
 image_range images entries s =
     range_by images s (option_map (λ e. e.name) (entry_for entries s.addr))

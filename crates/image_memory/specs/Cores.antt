@@ -25,7 +25,7 @@ pub record IsCore (bytes : List ℕ) : Type 0 where
 abbrev pub HasBadNote : List ℕ → Type 0
 HasBadNote bytes = (notes : List Noted) (entries : List Entry) → AreCoreNotes bytes notes entries → ⊥
 
--- the bytes are refused by this error, in the order of the errors; want of memory may always be answered
+-- the bytes are refused by this error, in the order of the errors; out of memory may always be answered
 abbrev pub RefusesCore : List ℕ → DumpError → Type 0
 RefusesCore bytes NotElf64 = ¬ IsElf64 bytes
 RefusesCore bytes BadHeader = IsElf64 bytes × ¬ HasSegments bytes
@@ -33,7 +33,7 @@ RefusesCore bytes NoNotes = IsAccepted bytes × (note_segments bytes ≡ [])
 RefusesCore bytes BadNote = HasNotes bytes × HasBadNote bytes
 RefusesCore bytes OutOfMemory = ⊤
 
--- the errors in whose place want of memory never comes
+-- the errors in whose place out of memory never comes
 abbrev pub IsEarly : DumpError → Type 0
 IsEarly NotElf64 = ⊤
 IsEarly BadHeader = ⊤

@@ -14,6 +14,7 @@ pub record Entry : Type 0 where
   pub place : FilePlace
   pub name : List ℕ
 
+-- an entry of the file table, with the bytes of its name
 abbrev pub file_entry_of : FileEntry → Entry
 file_entry_of e = record { start = e.start; place = e.place; name = e.name.now }
 

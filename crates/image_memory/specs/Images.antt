@@ -8,6 +8,7 @@ use Rattle.image_memory.specs.Mmap.{Mapped, shown_bytes}
 abbrev pub Pushed : Type 0
 Pushed = List (List ℕ × Mapped)
 
+-- whether an image was handed in under this path
 abbrev pub is_under : List ℕ → List ℕ × Mapped → Bool
 is_under path image = pointwise nat_eq image.0 path
 

@@ -7,6 +7,7 @@ use Rattle.piece_table.specs.Places.{addresses_of}
 use Rattle.piece_table.specs.declared.table.FileRange.{FileRange}
 use Rattle.image_memory.specs.declared.maps.CoreMapRange.{CoreMapRange}
 
+-- the last address, 2^64 - 1
 abbrev pub last_addr : ℕ
 last_addr = 2 ^ 64 - 1
 

@@ -12,6 +12,7 @@ use Rattle.image_memory.specs.Pieces.{loads_of}
 use Rattle.image_memory.specs.declared.file_table.FilePlace.{FilePlace}
 use Rattle.image_memory.specs.declared.maps.CoreMapRange.{CoreMapRange}
 
+-- whether an entry of the file table begins at this address
 abbrev pub starts_at : ℕ → Entry → Bool
 starts_at addr entry = nat_eq entry.start addr
 
@@ -39,6 +40,7 @@ map_by entries s = named_by (entry_for entries s.addr) s
 abbrev pub placed_by : Option Entry → Option FilePlace
 placed_by entry = option_map (λ e. e.place) entry
 
+-- where a segment stands in the file that the file table names
 abbrev pub file_place_by : List Entry → Segment → Option FilePlace
 file_place_by entries s = placed_by (entry_for entries s.addr)
 

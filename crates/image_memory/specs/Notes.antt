@@ -15,6 +15,7 @@ use Rattle.image_memory.specs.FileTables.{Entry, IsFileTable}
 use Rattle.image_memory.specs.declared.records.elf_prstatus.{elf_prstatus}
 use Rattle.image_memory.specs.declared.records.elf_prpsinfo.{elf_prpsinfo}
 
+-- whether a segment holds notes (`PT_NOTE`, gABI)
 abbrev pub is_note : Segment → Bool
 is_note s = nat_eq s.kind note_kind
 
@@ -37,6 +38,7 @@ NotesOf bytes (s ∷ ss) notes =
     (own others : List Noted) × AreNotes (segment_bytes bytes s) own
     × NotesOf bytes ss others × (notes ≡ own ++ others)
 
+-- whether a note is of this type
 abbrev pub is_of_kind : ℕ → Noted → Bool
 is_of_kind kind note = nat_eq note.kind kind
 
@@ -44,9 +46,11 @@ is_of_kind kind note = nat_eq note.kind kind
 abbrev pub status_kind : ℕ
 status_kind = 1
 
+-- `NT_PRPSINFO`, the type of the note of the process (Linux, elf.h)
 abbrev pub process_kind : ℕ
 process_kind = 3
 
+-- `NT_FILE`, the type of the file table (Linux, elf.h)
 abbrev pub table_kind : ℕ
 table_kind = 0x46494c45
 
@@ -61,6 +65,7 @@ TablesSay [] entries = entries ≡ []
 TablesSay (table ∷ tables) entries =
     (own others : List Entry) × IsFileTable table.desc own × TablesSay tables others × (entries ≡ own ++ others)
 
+-- whether a note is a file table
 abbrev pub is_table : Noted → Bool
 is_table = is_of_kind table_kind
 
@@ -83,6 +88,7 @@ desc_of kind notes = option_map (λ note. note.desc) (find (is_of_kind kind) not
 abbrev pub i32_in : List ℕ → ℕ → ℤ
 i32_in bytes at = cast_signed w32 (u32_in bytes at)
 
+-- the signed number of two bytes at a place, the lowest byte first
 abbrev pub i16_in : List ℕ → ℕ → ℤ
 i16_in bytes at = cast_signed w16 (u16_in bytes at)
 
@@ -90,6 +96,7 @@ i16_in bytes at = cast_signed w16 (u16_in bytes at)
 abbrev pub cursig_place : ℕ
 cursig_place = 12
 
+-- where a status record has the thread's id, in bytes (`pr_pid` of `struct elf_prstatus`, Linux)
 abbrev pub status_pid_place : ℕ
 status_pid_place = 32
 
@@ -97,9 +104,11 @@ status_pid_place = 32
 abbrev pub process_pid_place : ℕ
 process_pid_place = 24
 
+-- where the note of the process has the file's name, in bytes (`pr_fname` of `struct elf_prpsinfo`, Linux)
 abbrev pub fname_place : ℕ
 fname_place = 40
 
+-- where the note of the process has the arguments, in bytes (`pr_psargs` of `struct elf_prpsinfo`, Linux)
 abbrev pub psargs_place : ℕ
 psargs_place = 56
 

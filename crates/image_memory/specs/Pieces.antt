@@ -11,6 +11,7 @@ use Rattle.process_memory.specs.Memory.{Region}
 abbrev pub segment_region : List ℕ → Segment → Region
 segment_region bytes s = (s.addr, take (min s.file_size s.mem_size) (drop s.offset bytes))
 
+-- whether a segment is loadable (`PT_LOAD`, gABI)
 abbrev pub is_load : Segment → Bool
 is_load s = nat_eq s.kind load_kind
 
@@ -34,6 +35,7 @@ core_range s = record { range = range_of s; file = 0 }
 abbrev pub core_ranges : List ℕ → List FileRange
 core_ranges bytes = map core_range (loads_of bytes)
 
+-- the addresses that a core's loadable segments have bytes for, in order
 abbrev pub ranges_of : List ℕ → List TableEntry
 ranges_of bytes = addresses_of (core_ranges bytes)
 

@@ -107,7 +107,7 @@ impl BackedDump {
     /// A core with the images that it mapped, whose bytes are shared. Of an image under a name that the core's
     /// file tables give to a segment without the write flag, the bytes from the named page on stand there, as
     /// many as the segment has in memory and the image has; the core's own bytes come first. That an image is
-    /// the file that was mapped is trusted. The one error is want of memory, and the core is dropped then.
+    /// the file that was mapped is trusted. The one error is out of memory, and the core is dropped then.
     pub fn new(alloc: Global, core: CoreDump, images: &Images) -> Result<BackedDump, AllocError>
         ensures kept { IfOk result (IsBacked core images.now) }
         ensures memory { IfOk result (λ dump. IsBackedMemory core images.now (regions_of dump)) }

@@ -118,7 +118,7 @@ fn read_segment<'a>(
     })
 }
 
-/// What is told with what a further segment says. The one error is want of memory, of which more records than there is
+/// What is told with what a further segment says. The one error is out of memory, of which more records than there is
 /// room for count.
 fn with_said<'a>(told: Told<'a>, said: Said<'a>, room: usize) -> Result<Told<'a>, AllocError>
     ensures statuses { IfOk result (λ all. all.statuses.items
@@ -141,7 +141,7 @@ fn with_said<'a>(told: Told<'a>, said: Said<'a>, room: usize) -> Result<Told<'a>
 }
 
 /// What the notes of a core say. It takes memory for one segment at a time, and of all of them together for what is
-/// kept alone; more of that than there is room for counts as want of memory.
+/// kept alone; more of that than there is room for counts as out of memory.
 fn read_notes<'a>(alloc: Global, elf: &Elf64<'a>, room: usize) -> Result<Told<'a>, DumpError>
     requires { IsAccepted elf.now }
     ensures bad { IsErrOf result DumpError.BadNote → HasBadNote elf.now }

@@ -81,10 +81,10 @@ impl CoreDump {
     /// `NotElf64` comes exactly where there are no 64 bytes, or the first six are not 7f 45 4c 46 02 01.
     /// `BadHeader` comes exactly where the header is accepted and the program headers are not: see
     /// `Elf64::parse`. `NoNotes` comes exactly where these are accepted and none is that of a note segment.
-    /// Where one of these holds, want of memory never comes in its place. Else `BadNote` comes only where the bytes of
+    /// Where one of these holds, out of memory never comes in its place. Else `BadNote` comes only where the bytes of
     /// a note segment are no notes, a status record has less than 112 bytes or a process record less than 136, or a
     /// file table is shorter, or has fewer names, than its count says; and there no other error comes but want of
-    /// memory. Else the one error is want of memory.
+    /// memory. Else the one error is out of memory.
     pub fn new(alloc: Global, bytes: Vec<u8>) -> Result<CoreDump, DumpError>
         ensures right { IfErr result (RefusesCore bytes.items) }
         ensures early { (error : Refusal) → IsEarly error → RefusesCore bytes.items error → result ≡ Err error }
@@ -152,7 +152,7 @@ impl CoreDump {
 
     /// The notes of the note segments, in table order, each with its descriptor, which is a part of the file: status
     /// records, process records, file tables, and what else a core has (`NT_SIGINFO`, `NT_AUXV`). A list of 24 bytes a
-    /// note is made each time, and the program headers are gone through. The one error is want of memory, as which more
+    /// note is made each time, and the program headers are gone through. The one error is out of memory, as which more
     /// notes than one for four bytes of the file count: so many there are only where segments share their bytes.
     pub fn notes(&self, alloc: Global) -> Result<Vec<Note<'_>>, AllocError>
         ensures are { IfOk result (λ notes. AreNotesOfCore self.now (map noted notes.items)) }

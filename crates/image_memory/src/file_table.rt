@@ -64,8 +64,8 @@ fn entry_at<'a>(table: &[u8], number: usize, name: &'a [u8]) -> FileEntry<'a>
 /// The entries of a file table.
 ///
 /// `BadNote` comes only where the bytes are no file table: they end before its numbers do, or fewer names
-/// that are ended by a nul follow than it says; there no other error comes but want of memory. Else the one
-/// error is want of memory.
+/// that are ended by a nul follow than it says; there no other error comes but out of memory. Else the one
+/// error is out of memory.
 pub(crate) fn table_entries(alloc: Global, table: &[u8]) -> Result<Vec<FileEntry<'_>>, DumpError>
     ensures bad { IsErrOf result DumpError.BadNote → IsNoFileTable table.now }
     ensures only { IfErr result (λ error. (error ≡ DumpError.BadNote) ⊎ (error ≡ DumpError.OutOfMemory)) }

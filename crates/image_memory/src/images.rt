@@ -32,7 +32,7 @@ impl Images {
         }
     }
 
-    /// One file more. The one error is want of memory, and leaves the files as they were.
+    /// One file more. The one error is out of memory, and leaves the files as they were.
     pub fn push(&mut self, path: Name, bytes: Mmap) -> Result<(), AllocError>
         ensures { MatchResult result (λ _. self.new ≡ self.old ++ (path, bytes) ∷ []) (λ _. self.new ≡ self.old) }
     {

@@ -71,7 +71,7 @@ fn past_last(maps: &[CoreMapRange]) -> u64
 }
 
 impl MapTable {
-    /// The table of some maps. It tests addresses as the maps do. The one error is want of memory.
+    /// The table of some maps. It tests addresses as the maps do. The one error is out of memory.
     pub fn of(alloc: Global, maps: &[CoreMapRange]) -> Result<MapTable, AllocError>
         ensures { IfOk result (λ table. tests table ≡ in_maps maps.now) }
     {

@@ -124,7 +124,7 @@ pub(crate) struct MapNames {
 }
 
 /// The name that an entry gives the maps at an address, if one does, held once. One of more bytes than there is room
-/// for counts as want of memory.
+/// for counts as out of memory.
 fn name_at(
     alloc: Global,
     names: &mut MapNames,
@@ -152,7 +152,7 @@ fn name_at(
 }
 
 /// The maps of some load segments, with the names that the last entries give them. More bytes of names than there is
-/// room for count as want of memory, of which the one error is.
+/// room for count as out of memory, of which the one error is.
 pub(crate) fn maps_of(
     alloc: Global,
     loads: &[Segment],

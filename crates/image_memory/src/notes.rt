@@ -18,7 +18,7 @@ use std::alloc::{AllocError, Global};
 /// The notes of the note segments, in table order.
 ///
 /// `BadNote` comes exactly where the bytes of one of these segments are no notes together. Else the one error
-/// is want of memory, as which more notes than there is room for count.
+/// is out of memory, as which more notes than there is room for count.
 pub(crate) fn core_notes<'a>(
     alloc: Global,
     elf: &Elf64<'a>,
@@ -104,7 +104,7 @@ pub(crate) fn last_process(notes: &[Note]) -> Option<elf_prpsinfo>
 
 /// The entries of the file tables among some notes, in order.
 ///
-/// `BadNote` comes exactly where one of the tables is none. Else the one error is want of memory.
+/// `BadNote` comes exactly where one of the tables is none. Else the one error is out of memory.
 pub(crate) fn file_entries<'a>(
     alloc: Global,
     notes: Vec<Note<'a>>,

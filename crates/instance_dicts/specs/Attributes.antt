@@ -40,9 +40,11 @@ pub record Told : Type 0 where
   pub list : List Attribute
   pub left : ℕ
 
+-- attributes, and how many slots are left
 abbrev pub told : List Attribute → ℕ → Told
 told list left = record { list = list; left = left }
 
+-- a result with the attributes
 abbrev pub told_of : {E : Type 0} → Result Attributes E → Result Told E
 told_of (Ok a) = Ok (told a.list.items a.left)
 told_of (Err e) = Err e
@@ -52,6 +54,7 @@ unfoldable pub behind_header : ℕ → Found ℕ
 behind_header zero = Ok 0
 behind_header (suc values) = as_address (suc values + 8)
 
+-- the slots of a dict whose values stand behind a header, where the layout has dicts
 abbrev pub headed_by : Layout → Memory → ℕ → Option DictAt → Found Slots
 headed_by l m a None = Err BadDict
 headed_by l m a (Some d) = do
@@ -71,6 +74,7 @@ slots_by_form l m ValuesAndDict a = dict_slots l m a
 slots_by_form l m OneWord a = dict_slots l m a
 slots_by_form l m Embedded a = headed_slots l m a
 
+-- an attribute, where its value's address isn't 0
 abbrev pub valued : ℕ → ℕ → List Attribute
 valued name zero = []
 valued name (suc value) = record { name = name; value = suc value } ∷ []
@@ -88,6 +92,7 @@ attributes_from m s (suc n) number = do
   rest ← attributes_from m s n (number + 1)
   Ok (attribute_of slot ++ rest)
 
+-- the smaller of two numbers
 unfoldable pub at_most : ℕ → ℕ → ℕ
 at_most count limit = if nat_lt count limit then count else limit
 

@@ -18,6 +18,7 @@ unfoldable pub held_apart : InstanceFields → Memory → ℕ → ℕ → ℕ �
 held_apart f m class zero dict = Ok (dict_or_none dict)
 held_apart f m class (suc values) dict = values_with f m class (suc values)
 
+-- the attributes of an object of 3.11, by the two words before it
 unfoldable pub values_and_dict_at : InstanceFields → Memory → ℕ → ℕ → Found InstanceDict
 values_and_dict_at f m a class = do
   values ← word_at m (address_before a 32)
@@ -28,6 +29,7 @@ values_and_dict_at f m a class = do
 unfoldable pub one_word : InstanceFields → Memory → ℕ → ℕ → Found InstanceDict
 one_word f m class word = if is_odd word then values_with f m class (word + 1) else Ok (dict_or_none word)
 
+-- the attributes of an object of 3.12, by the tagged word before it
 unfoldable pub one_word_at : InstanceFields → Memory → ℕ → ℕ → Found InstanceDict
 one_word_at f m a class = word_at m (address_before a 24) >>= one_word f m class
 
@@ -40,6 +42,7 @@ unfoldable pub values_if : InstanceFields → Memory → ℕ → ℕ → ℕ →
 values_if f m class place zero = Ok None
 values_if f m class place (suc valid) = values_with f m class (place + 8)
 
+-- the values inside an object of 3.13, where their header says that they are valid (`_dictvalues.valid`)
 unfoldable pub valid_values : InstanceFields → Memory → ℕ → ℕ → ℕ → Found InstanceDict
 valid_values f m class place header = values_if f m class place (valid_byte header)
 
@@ -55,6 +58,7 @@ unfoldable pub embedded_by : InstanceFields → Memory → ℕ → ℕ → ℕ �
 embedded_by f m a class flags zero = if bit_is_set flags 2 then embedded_values_at f m a class else Ok None
 embedded_by f m a class flags (suc dict) = Ok (Dict (suc dict))
 
+-- the attributes of an object of 3.13, by the word before it or inside it
 unfoldable pub embedded_at : InstanceFields → Memory → ℕ → ℕ → ℕ → Found InstanceDict
 embedded_at f m a class flags = word_at m (address_before a 24) >>= embedded_by f m a class flags
 

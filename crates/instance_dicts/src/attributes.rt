@@ -174,7 +174,7 @@ fn told_by<P: ProcessMemory>(
 /// have a header of 8 bytes in a dict of 3.13.
 ///
 /// What is not in memory is `Unreadable`: the dict's record, that of its keys, then slot after slot. A layout without
-/// dicts is `BadDict`, and so are numbers of a dict that can't be (`DictCursor::from`). Else it is want of memory. At
+/// dicts is `BadDict`, and so are numbers of a dict that can't be (`DictCursor::from`). Else it is out of memory. At
 /// most 3 reads, and 2 for each slot that is looked at.
 pub fn dict_attributes<P: ProcessMemory>(
     alloc: Global,

@@ -59,7 +59,7 @@ fn dict_of_class<P: ProcessMemory>(
 ///
 /// What is not in memory is `Unreadable`: the instance's record and its class's, then the words in this order. Else it
 /// is
-/// want of memory. At most 6 reads.
+/// out of memory. At most 6 reads.
 pub fn instance_dict<P: ProcessMemory>(
     alloc: Global,
     process: &mut P,

@@ -9,23 +9,29 @@ use Rattle.py_fronts.specs.declared.standing.Standing.{Standing}
 use Rattle.py_fronts.specs.declared.standing.Standing.TheVariants.{Frame, Member}
 use Rattle.py_fronts.specs.declared.thread_front.ThreadFront.{ThreadFront}
 
+-- the address of a local's value
 abbrev pub address_of : LocalVariable → ℕ
 address_of local = local.addr
 
+-- the addresses of the values of a frame's locals
 abbrev pub in_locals : Option (Vec LocalVariable Global) → List ℕ
 in_locals None = []
 in_locals (Some locals) = map address_of locals.items
 
+-- the addresses of the values of a shown frame's locals
 abbrev pub in_standing : Standing → List ℕ
 in_standing (Frame frame fault) = in_locals frame.locals
 in_standing (Member address why) = []
 
+-- the addresses of the values in a thread's first and last frames
 abbrev pub in_frames : FramesFront → List ℕ
 in_frames frames = flat_map in_standing frames.first.items ++ flat_map in_standing frames.last.items
 
+-- the addresses of the values in a thread
 abbrev pub in_thread : ThreadFront → List ℕ
 in_thread thread = in_frames thread.frames
 
+-- the addresses of the values in an interpreter's threads, in order
 abbrev pub in_interpreter : SalvagedInterpreter → List ℕ
 in_interpreter interpreter = flat_map in_thread interpreter.front.threads.threads.items
 

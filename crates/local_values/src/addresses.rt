@@ -104,7 +104,7 @@ fn each_once(alloc: Global, addresses: &[u64]) -> Result<Vec<u64>, AllocError>
 
 /// The addresses of the locals of all frames that are shown of these interpreters, each once, in the order in which
 /// they are met first: the interpreters, the threads of each and the frames of each, the first and the last, as they
-/// stand. The one error is want of memory.
+/// stand. The one error is out of memory.
 pub fn shown_addresses(
     alloc: Global,
     interpreters: &[SalvagedInterpreter],

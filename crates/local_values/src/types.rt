@@ -75,7 +75,7 @@ fn read_type_name<P: ProcessMemory>(
     }
 }
 
-/// Keeps the name of a type for an address. The one error is want of memory.
+/// Keeps the name of a type for an address. The one error is out of memory.
 fn keep_name(
     names: &mut BTreeMap<u64, Option<Text>>,
     addr: u64,

@@ -66,7 +66,7 @@ struct Rounds {
     left_out: u64,
 }
 
-/// Keeps the value at an address. The one error is want of memory.
+/// Keeps the value at an address. The one error is out of memory.
 fn keep(values: &mut BTreeMap<u64, Repr>, addr: u64, value: Repr) -> Result<(), ReprError>
     ensures { OnOk result ((a : ℕ) → held_in values.new a ≡ with_value (held_in values.old) addr (tree_of value) a) }
 {
@@ -155,7 +155,7 @@ fn rounds_of(times: u32) -> u32
 /// is that of the last round in which it was read, so that an address that has one by fewer `-l` has one by more. The
 /// addresses that were read in no round are left out, and counted.
 ///
-/// What is not in memory is told in the values. The one error is want of memory. At most as many reads for each address
+/// What is not in memory is told in the values. The one error is out of memory. At most as many reads for each address
 /// and round as `read_repr` makes, and 17 for each address.
 pub fn read_local_values<P: ProcessMemory>(
     alloc: Global,

@@ -19,15 +19,19 @@ field = before_first is_ascii_whitespace
 abbrev pub behind : List ℕ → List ℕ
 behind = after_first is_ascii_whitespace
 
+-- whether a byte is `-`
 abbrev pub is_dash : ℕ → Bool
 is_dash byte = byte == 45
 
+-- whether a field has a `-`
 abbrev pub has_dash : List ℕ → Bool
 has_dash = has_any is_dash
 
+-- what stands before the first `-`
 abbrev pub before_dash : List ℕ → List ℕ
 before_dash = before_first is_dash
 
+-- what stands behind the first `-`
 abbrev pub after_dash : List ℕ → List ℕ
 after_dash = after_first is_dash
 

@@ -16,15 +16,19 @@ use Rattle.maps_text.specs.Perms.{is_mode, perm_of}
 abbrev pub after_range : List ℕ → List ℕ
 after_range line = behind line
 
+-- a line of maps behind its permissions (proc(5), /proc/PID/maps)
 abbrev pub after_mode : List ℕ → List ℕ
 after_mode line = behind (after_range line)
 
+-- a line of maps behind its offset
 abbrev pub after_offset : List ℕ → List ℕ
 after_offset line = behind (after_mode line)
 
+-- a line of maps behind its device
 abbrev pub after_device : List ℕ → List ℕ
 after_device line = behind (after_offset line)
 
+-- a line of maps behind its inode
 abbrev pub after_inode : List ℕ → List ℕ
 after_inode line = behind (after_device line)
 
@@ -35,9 +39,11 @@ line_range_of line = record {
   end = digits_value 16 (after_dash (field line));
 }
 
+-- the permissions of a line of maps
 abbrev pub perm_in_line : List ℕ → Perm
 perm_in_line line = perm_of (field (after_range line))
 
+-- the offset of a line of maps, in bytes; it is written in hexadecimal digits
 abbrev pub map_offset_of : List ℕ → ℕ
 map_offset_of line = digits_value 16 (field (after_mode line))
 

@@ -5,6 +5,7 @@ use Rattle.maps_text.specs.declared.entry.MapsEntry.{MapsEntry}
 use Rattle.maps_text.specs.declared.error.MapsError.{MapsError}
 use Rattle.maps_text.specs.Lines.{maps_line_of}
 
+-- whether a byte is a line feed
 abbrev pub is_newline : ℕ → Bool
 is_newline byte = byte == 10
 

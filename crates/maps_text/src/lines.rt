@@ -44,7 +44,7 @@ pub struct MapsEntryIter<'a> {
 /// The entries of a text as `/proc/PID/maps` has it, of the process of this id.
 ///
 /// Each line gives its entry, or the first error that holds, in the order in which `MapsError` has them;
-/// want of memory may come at any line. Nothing is read before an entry is asked for.
+/// out of memory may come at any line. Nothing is read before an entry is asked for.
 pub fn parse_file<'a>(alloc: Global, bytes: &'a [u8], pid: u32) -> MapsEntryIter<'a>
     ensures { answers_left result ≡ answers_of pid bytes.now }
 {

@@ -7,10 +7,12 @@ pub data Item : Type 0 where
   Number : (n : ℤ) → Item
   Words : (text : List ℕ) → Item
 
+-- the value of a local: a single one, or a list of single ones
 pub data Held : Type 0 where
   Single : (item : Item) → Held
   Items : (items : List Item) → Held
 
+-- a local: the characters of its name, and its value
 pub record Local : Type 0 where
   pub name : List ℕ
   pub value : Held
@@ -26,6 +28,7 @@ pub record Frame : Type 0 where
   pub args : ℕ
   pub locals : List Local
 
+-- a thread: its id, and its calls, the newest first
 pub record Thread : Type 0 where
   pub id : ℕ
   pub frames : List Frame

@@ -24,9 +24,11 @@ capped n = min n (2 ^ 64 - 1)
 abbrev pub number_len : Layout → ℕ
 number_len l = max (max l.long.size l.object.size) (l.long.digits + 8)
 
+-- the bytes of a list's record, which has the head of every object too
 abbrev pub list_len : Layout → ℕ
 list_len l = max l.list.size l.object.size
 
+-- the bytes that a single value takes
 unfoldable pub item_size : Layout → Item → ℕ
 item_size l (Number n) = rounded (number_len l)
 item_size l (Words cs) = rounded (text_len l cs)
@@ -42,6 +44,7 @@ held_size l (Items items) = rounded (list_len l) + rounded (8 * length items) + 
 abbrev pub frame_len : Layout → Frame → ℕ
 frame_len l f = max l.frame.size (l.frame.locals + 8 * length f.locals)
 
+-- the bytes of the bytes object that has a frame's line table
 abbrev pub table_len : Layout → Frame → ℕ
 table_len l f = max l.bytes.size (l.bytes.at + length (coded (family_of l.lines) f.first f.ranges))
 
@@ -49,9 +52,11 @@ table_len l f = max l.bytes.size (l.bytes.at + length (coded (family_of l.lines)
 abbrev pub tuple_len : Layout → Frame → ℕ
 tuple_len l f = max l.tuple.size (l.tuple.at + 8 * length f.locals)
 
+-- the bytes that the text of a local's name takes
 unfoldable pub name_size : Layout → Local → ℕ
 name_size l v = rounded (text_len l v.name)
 
+-- the bytes that a local's value takes
 unfoldable pub local_size : Layout → Local → ℕ
 local_size l v = held_size l v.value
 
@@ -66,6 +71,7 @@ frame_size l f = records_size l f + sum_by (name_size l) f.locals + sum_by (loca
 
 -- ---- threads
 
+-- the bytes that a C frame takes: up to its word, and 0 where the layout has none
 abbrev pub cframe_size : Option CframeAt → ℕ
 cframe_size None = 0
 cframe_size (Some c) = rounded (c.current + 8)
@@ -81,9 +87,11 @@ abbrev pub word_end : Option ℕ → ℕ
 word_end None = 0
 word_end (Some at) = at + 8
 
+-- the bytes of the interpreter's record: up to the last of its words that are written
 abbrev pub interpreter_len : Layout → ℕ
 interpreter_len l = max (max (l.interpreter.threads + 8) (l.interpreter.modules + 8)) (word_end l.interpreter.gil)
 
+-- the bytes that the lock's record takes; 0 where the layout has none
 abbrev pub gil_size : Option GilAt → ℕ
 gil_size None = 0
 gil_size (Some g) = rounded g.size
@@ -96,5 +104,6 @@ type_size l = rounded l.klass.size + 128
 unfoldable pub shared_size : Layout → ℕ
 shared_size l = rounded (interpreter_len l) + gil_size l.gil + 3 * type_size l
 
+-- the bytes that a whole program takes
 unfoldable pub program_size : Layout → Program → ℕ
 program_size l p = shared_size l + sum_by (thread_size l) p.threads

@@ -32,18 +32,22 @@ use Rattle.memory_builder.specs.Threads.{frames_place}
 
 -- ---- values
 
+-- how a single value is shown: a number in decimal, or a quoted text
 abbrev pub item_node : Item → Node (List Item)
 item_node (Number z) = Whole (number_text (codes "int") z)
 item_node (Words cs) = Quoted (encode_utf8_all cs)
 
+-- how a value is shown: a single one, or a list in square brackets
 abbrev pub told_node : Held → Found (Node (List Item))
 told_node (Single x) = Ok (item_node x)
 told_node (Items xs) = Ok (Many Square (length xs) xs)
 
+-- an item of a list as a value to show; a fault where there is none
 abbrev pub child_by : Option Item → Found (Child Held)
 child_by None = Err BadType
 child_by (Some x) = Ok (ItemChild (Single x))
 
+-- the item of an index, counted from 0
 abbrev pub told_child : List Item → ℕ → Found (Child Held)
 told_child xs k = child_by (slice_get xs k)
 
@@ -70,6 +74,7 @@ locals_told width l args index a (v ∷ vs) =
     record { name = v.name; addr = a; arg = nat_lt index args; repr = Some (told_text width v.value) }
     ∷ locals_told width l args (index + 1) (a + local_size l v) vs
 
+-- the locals of a frame that stands at an address, where they are asked for
 abbrev pub asked_told : Bool → (width : ℕ) → Layout → ℕ → Frame → Option (List LocalVariable)
 asked_told false width l a f = None
 asked_told true width l a f = Some (locals_told width l f.args 0 (values_place l a f) f.locals)
@@ -79,6 +84,7 @@ abbrev pub call_told : Asked → (width : ℕ) → Layout → ℕ → Frame → 
 call_told q width l a f = with_detail (call_named f.filename f.name true)
     (detail_with (line_told q.lineno f) (asked_told q.locals width l a f))
 
+-- the calls of a thread whose newest frame stands at an address
 abbrev pub calls_told : Asked → (width : ℕ) → Layout → ℕ → List Frame → List Call
 calls_told q width l a fs = shown (values_at (frame_size l) (λ at f. Some (call_told q width l at f)) a fs)
 

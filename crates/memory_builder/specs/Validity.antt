@@ -20,10 +20,12 @@ abbrev pub IsValidItem : Item → Type 0
 IsValidItem (Number n) = unsigned_abs n < 2 ^ 60
 IsValidItem (Words text) = IsBriefText text
 
+-- a value that can be written: a list has fewer than 65536 items
 abbrev pub IsValidHeld : Held → Type 0
 IsValidHeld (Single item) = IsValidItem item
 IsValidHeld (Items items) = (length items < 65536) × AllByRecursion IsValidItem items
 
+-- a local that can be written: its name is short, and so is its value
 pub record IsValidLocal (v : Local) : Type 0 where
   pub name : IsBriefText v.name
   pub value : IsValidHeld v.value
@@ -33,6 +35,7 @@ pub record IsPositiveLine (line : ℤ) : Type 0 where
   pub positive : pos 1 ≤ℤ line
   pub fits : line ≤ℤ pos (2 ^ 31 - 1)
 
+-- a line is there and is positive
 abbrev pub HasPositiveLine : Option ℤ → Type 0
 HasPositiveLine None = ⊥
 HasPositiveLine (Some line) = IsPositiveLine line
@@ -54,6 +57,7 @@ pub record IsShownFile (filename : List ℕ) : Type 0 where
   pub some : filename ≢ []
   pub no_shim : filename ≢ codes "<shim>"
 
+-- the names of a frame are short, and its file is one that is shown
 pub record IsValidlyNamed (f : Frame) : Type 0 where
   pub name : IsBriefText f.name
   pub filename : IsBriefText f.filename
@@ -66,11 +70,13 @@ pub record IsValidlyPlaced (f : Frame) : Type 0 where
   pub even : f.offset % 2 ≡ 0
   pub inside : IsTrue (list_any (holds f.offset) f.ranges)
 
+-- at most 65535 locals, each of them valid, and no more arguments than locals
 pub record HasValidLocals (f : Frame) : Type 0 where
   pub args : f.args ≤ length f.locals
   pub few : length f.locals ≤ 65535
   pub each : AllByRecursion IsValidLocal f.locals
 
+-- a frame can be written, with a line table of a family
 pub record IsValidFrame (family : LineFamily) (f : Frame) : Type 0 where
   pub named : IsValidlyNamed f
   pub placed : IsValidlyPlaced f

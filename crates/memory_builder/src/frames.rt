@@ -45,7 +45,7 @@ fn table_len(layout: &Layout, table: &[u8]) -> u64
     u64::from(layout.bytes.size).max(u64::from(layout.bytes.at) + table.len() as u64)
 }
 
-/// The line table of a frame. The one error is want of memory.
+/// The line table of a frame. The one error is out of memory.
 fn coded_lines(alloc: Global, layout: &Layout, frame: &ProgramFrame) -> Result<Vec<u8>, AllocError>
     requires { IsValidFrame (family_of layout.now.lines) (frame_in frame.now) }
     ensures value { IfOk result (λ table. table.items ≡ coded_lines layout.now (frame_in frame.now)) }
@@ -96,7 +96,7 @@ fn instr_value(lasti: Lasti, start: u64, offset: u32) -> Value<'static>
     }
 }
 
-/// Adds the record of a frame, with the addresses of its locals' values. The one error is want of memory.
+/// Adds the record of a frame, with the addresses of its locals' values. The one error is out of memory.
 fn add_record(
     out: &mut Vec<u8>,
     layout: &Layout,
@@ -137,7 +137,7 @@ fn add_record(
     add_object(out, frame_len(layout, frame) as usize, &writes)
 }
 
-/// Adds the code of a frame. The one error is want of memory.
+/// Adds the code of a frame. The one error is out of memory.
 fn add_code(
     out: &mut Vec<u8>,
     layout: &Layout,
@@ -184,7 +184,7 @@ fn add_code(
     add_object(out, at.size as usize, &writes)
 }
 
-/// Adds a line table. The one error is want of memory.
+/// Adds a line table. The one error is out of memory.
 fn add_table(out: &mut Vec<u8>, layout: &Layout, lines: &[u8]) -> Result<(), AllocError>
     requires sound { IsSound layout.now }
     requires short { length lines.now < 65536 }
@@ -205,7 +205,7 @@ fn add_table(out: &mut Vec<u8>, layout: &Layout, lines: &[u8]) -> Result<(), All
     add_object(out, table_len(layout, lines) as usize, &writes)
 }
 
-/// Adds the tuple of the names of a frame's locals, of which the addresses are given. The one error is want of memory.
+/// Adds the tuple of the names of a frame's locals, of which the addresses are given. The one error is out of memory.
 fn add_tuple(
     out: &mut Vec<u8>,
     layout: &Layout,
@@ -260,7 +260,7 @@ fn add_records(
     add_tuple(out, layout, &names, frame)
 }
 
-/// Adds the texts of a frame, and the values of its locals. The one error is want of memory.
+/// Adds the texts of a frame, and the values of its locals. The one error is out of memory.
 fn add_contents(
     alloc: Global,
     out: &mut Vec<u8>,

@@ -15,7 +15,7 @@ use object_builder::{add_text, rounded, text_len};
 use py_fields::Layout;
 use std::alloc::{AllocError, Global};
 
-/// Adds the names of locals. The one error is want of memory.
+/// Adds the names of locals. The one error is out of memory.
 pub(crate) fn add_names(
     alloc: Global,
     out: &mut Vec<u8>,
@@ -33,7 +33,7 @@ pub(crate) fn add_names(
     Ok(())
 }
 
-/// The addresses of the names of locals, of which the first is given. The one error is want of memory.
+/// The addresses of the names of locals, of which the first is given. The one error is out of memory.
 pub(crate) fn name_addresses(
     alloc: Global,
     layout: &Layout,
@@ -55,7 +55,7 @@ pub(crate) fn name_addresses(
     Ok(found)
 }
 
-/// Adds the values of locals, of which the first is to stand at an address. The one error is want of memory.
+/// Adds the values of locals, of which the first is to stand at an address. The one error is out of memory.
 pub(crate) fn add_values(
     alloc: Global,
     out: &mut Vec<u8>,
@@ -78,7 +78,7 @@ pub(crate) fn add_values(
     Ok(())
 }
 
-/// The addresses of the values of locals, of which the first is given. The one error is want of memory.
+/// The addresses of the values of locals, of which the first is given. The one error is out of memory.
 pub(crate) fn value_addresses(
     alloc: Global,
     layout: &Layout,

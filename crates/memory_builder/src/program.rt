@@ -27,7 +27,7 @@ use std::alloc::{AllocError, Global};
 /// How many bytes the name of a type has.
 const TYPE_NAME: usize = 128;
 
-/// Adds the interpreter. The one error is want of memory.
+/// Adds the interpreter. The one error is out of memory.
 fn add_interpreter(
     out: &mut Vec<u8>,
     layout: &Layout,
@@ -60,7 +60,7 @@ fn is_held(holder: u64) -> u32
     if holder == 0 { 0 } else { 1 }
 }
 
-/// Adds the lock's record, where there is one. The one error is want of memory.
+/// Adds the lock's record, where there is one. The one error is out of memory.
 fn add_gil(out: &mut Vec<u8>, gil: Option<GilAt>, holder: u64) -> Result<(), AllocError>
     requires { IfSome gil (λ g. IsRecord g.size (gil_places g)) }
     ensures { IfOk result (λ _. out.new.items ≡ out.old.items ++ laid_gil gil holder) }
@@ -81,7 +81,7 @@ fn add_gil(out: &mut Vec<u8>, gil: Option<GilAt>, holder: u64) -> Result<(), All
     add_object(out, at.size as usize, &writes)
 }
 
-/// Adds the record of a type whose name is to stand at an address. The one error is want of memory.
+/// Adds the record of a type whose name is to stand at an address. The one error is out of memory.
 fn add_type_record(
     out: &mut Vec<u8>,
     layout: &Layout,
@@ -109,7 +109,7 @@ fn add_type_record(
     add_object(out, layout.klass.size as usize, &writes)
 }
 
-/// Adds the name of a type. The one error is want of memory.
+/// Adds the name of a type. The one error is out of memory.
 fn add_type_name(out: &mut Vec<u8>, name: &[u8]) -> Result<(), AllocError>
     requires { length name.now ≤ 128 }
     ensures { IfOk result (λ _. out.new.items ≡ out.old.items ++ aligned (type_name name.now)) }
@@ -121,7 +121,7 @@ fn add_type_name(out: &mut Vec<u8>, name: &[u8]) -> Result<(), AllocError>
     add_object(out, TYPE_NAME, &writes)
 }
 
-/// Adds a type that is to stand at an address, and its name. The one error is want of memory.
+/// Adds a type that is to stand at an address, and its name. The one error is out of memory.
 fn add_type(
     out: &mut Vec<u8>,
     layout: &Layout,
@@ -162,7 +162,7 @@ fn types_at(layout: &Layout, at: u64) -> TypesAt
     }
 }
 
-/// Adds the three types. The one error is want of memory.
+/// Adds the three types. The one error is out of memory.
 #[tactic(auto, unfolding(crate::specs::Laid::three_types))]
 fn add_types(out: &mut Vec<u8>, layout: &Layout, types: TypesAt) -> Result<(), AllocError>
     requires sound { IsSound layout.now }
@@ -176,7 +176,7 @@ fn add_types(out: &mut Vec<u8>, layout: &Layout, types: TypesAt) -> Result<(), A
     add_type(out, layout, types.list, 1 << 25, b"list")
 }
 
-/// Where the thread is to stand that holds the lock, or 0 where none does. The one error is want of memory.
+/// Where the thread is to stand that holds the lock, or 0 where none does. The one error is out of memory.
 fn owner_place(
     alloc: Global,
     layout: &Layout,
@@ -211,7 +211,7 @@ pub fn lock_record_place(layout: &Layout, at: u64) -> u64
 }
 
 /// Where the thread stands that holds the lock, of a program whose objects stand in memory from an address on; 0 where
-/// none holds it. The one error is want of memory.
+/// none holds it. The one error is out of memory.
 pub fn holder_place(
     alloc: Global,
     program: &Program,
@@ -238,7 +238,7 @@ pub fn holder_place(
 /// word that names the owner's thread where the layout has no such record, tells the owner's id, which no other thread
 /// has. For that the layout has to have room for the type of a value beside its other fields.
 ///
-/// The one error is want of memory.
+/// The one error is out of memory.
 pub fn laid_program(
     alloc: Global,
     program: &Program,

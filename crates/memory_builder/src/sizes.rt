@@ -129,7 +129,7 @@ pub fn family_of(lines: Lines) -> LineFamily
     }
 }
 
-/// How long a line table is, of ranges that have one; the one error is want of memory.
+/// How long a line table is, of ranges that have one; the one error is out of memory.
 fn table_len(
     alloc: Global,
     layout: &Layout,
@@ -171,7 +171,7 @@ pub(crate) fn tuple_len(layout: &Layout, frame: &ProgramFrame) -> u64
     u64::from(layout.tuple.size).max(end)
 }
 
-/// How much a frame's records and texts take, but for those of its locals; the one error is want of memory.
+/// How much a frame's records and texts take, but for those of its locals; the one error is out of memory.
 fn records_size(alloc: Global, layout: &Layout, frame: &ProgramFrame) -> Result<u64, AllocError>
     requires sound { IsSound layout.now }
     requires valid { IsValidFrame (family_of layout.now.lines) (frame_in frame.now) }
@@ -186,7 +186,7 @@ fn records_size(alloc: Global, layout: &Layout, frame: &ProgramFrame) -> Result<
     Ok(rounded(frame_len) + code + rounded(table_len) + rounded(tuple_len) + texts)
 }
 
-/// How much a frame takes, with its locals; the one error is want of memory.
+/// How much a frame takes, with its locals; the one error is out of memory.
 pub(crate) fn frame_size(
     alloc: Global,
     layout: &Layout,
@@ -202,7 +202,7 @@ pub(crate) fn frame_size(
     Ok(records.saturating_add(names).saturating_add(values))
 }
 
-/// How much frames take; the one error is want of memory.
+/// How much frames take; the one error is out of memory.
 fn frames_size(alloc: Global, layout: &Layout, frames: &[ProgramFrame]) -> Result<u64, AllocError>
     requires sound { IsSound layout.now }
     requires valid { (k : ℕ) → IsValidCall (family_of layout.now.lines) (map frame_in frames.now) k }
@@ -225,7 +225,7 @@ pub(crate) fn cframe_size(cframe: Option<CframeAt>) -> u64
     }
 }
 
-/// How much a thread takes, with its frames; the one error is want of memory.
+/// How much a thread takes, with its frames; the one error is out of memory.
 pub(crate) fn thread_size(
     alloc: Global,
     layout: &Layout,
@@ -281,7 +281,7 @@ pub(crate) fn shared_size(layout: &Layout) -> u64
     rounded(interpreter_len(layout)) + gil_size(layout.gil) + types
 }
 
-/// How much the threads of a program take; the one error is want of memory.
+/// How much the threads of a program take; the one error is out of memory.
 fn threads_size(alloc: Global, layout: &Layout, program: &Program) -> Result<u64, AllocError>
     requires sound { IsSound layout.now }
     requires valid { IsValidProgram (family_of layout.now.lines) (program_in program.now) }
@@ -298,7 +298,7 @@ fn threads_size(alloc: Global, layout: &Layout, program: &Program) -> Result<u64
 /// less.
 ///
 /// It depends on the lengths of the objects alone, which follow from the program and the layout. The one error is
-/// want of memory: line tables are written to be measured.
+/// out of memory: line tables are written to be measured.
 pub fn objects_size(alloc: Global, program: &Program, layout: &Layout) -> Result<u64, AllocError>
     requires sound { IsSound layout.now }
     requires valid { IsValidProgram (family_of layout.now.lines) (program_in program.now) }

@@ -30,7 +30,7 @@ fn frames_head(at: u64, frames: &[ProgramFrame]) -> u64
     }
 }
 
-/// Adds the frames of a thread, of which the first is to stand at an address. The one error is want of memory.
+/// Adds the frames of a thread, of which the first is to stand at an address. The one error is out of memory.
 fn add_frames(
     alloc: Global,
     out: &mut Vec<u8>,
@@ -64,7 +64,7 @@ fn add_frames(
     Ok(())
 }
 
-/// Adds a C frame that names the first frame. The one error is want of memory.
+/// Adds a C frame that names the first frame. The one error is out of memory.
 fn add_cframe(out: &mut Vec<u8>, cframe: Option<CframeAt>, first: u64) -> Result<(), AllocError>
     ensures { IfOk result (λ _. out.new.items ≡ out.old.items ++ laid_cframe cframe first) }
 {
@@ -78,7 +78,7 @@ fn add_cframe(out: &mut Vec<u8>, cframe: Option<CframeAt>, first: u64) -> Result
     add_object(out, at.current as usize + 8, &writes)
 }
 
-/// Adds the record of a thread. The one error is want of memory.
+/// Adds the record of a thread. The one error is out of memory.
 fn add_thread_record(
     out: &mut Vec<u8>,
     layout: &Layout,
@@ -125,7 +125,7 @@ fn frame_field(cframe: Option<CframeAt>, cframe_at: u64, first: u64) -> u64
 }
 
 /// Adds a thread that is to stand at an address, with its frames; `next` is the address of the one behind it in the
-/// interpreter's chain, or 0. The one error is want of memory.
+/// interpreter's chain, or 0. The one error is out of memory.
 fn add_thread(
     alloc: Global,
     out: &mut Vec<u8>,
@@ -161,7 +161,7 @@ pub(crate) fn threads_head(at: u64, threads: &[ProgramThread]) -> u64
     }
 }
 
-/// Adds threads, of which the first is to stand at an address. The one error is want of memory.
+/// Adds threads, of which the first is to stand at an address. The one error is out of memory.
 pub(crate) fn add_threads(
     alloc: Global,
     out: &mut Vec<u8>,

@@ -262,7 +262,7 @@ fn is_valid_whole(program: &Program) -> bool
 /// - A frame has at most 65535 locals, and not more arguments than locals. Numbers are of magnitude below 2^60, and
 ///   lists have fewer than 65536 items.
 ///
-/// The one error is want of memory.
+/// The one error is out of memory.
 pub fn first_invalid(
     alloc: Global,
     program: &Program,

@@ -67,7 +67,7 @@ fn digits_word(number: u64) -> u64
     number % (1 << 30) + number / (1 << 30) * (1 << 32)
 }
 
-/// Adds a number. The one error is want of memory.
+/// Adds a number. The one error is out of memory.
 fn add_number(out: &mut Vec<u8>, layout: &Layout, klass: u64, number: i64) -> Result<(), AllocError>
     requires sound { IsSound layout.now }
     requires small { unsigned_abs number < 2 ^ 60 }
@@ -91,7 +91,7 @@ fn add_number(out: &mut Vec<u8>, layout: &Layout, klass: u64, number: i64) -> Re
     add_object(out, number_len(layout) as usize, &writes)
 }
 
-/// Adds an item of a list. The one error is want of memory.
+/// Adds an item of a list. The one error is out of memory.
 #[tactic(auto, unfolding(crate::specs::Values::laid_item))]
 fn add_item(
     alloc: Global,
@@ -110,7 +110,7 @@ fn add_item(
     }
 }
 
-/// Adds the items of a list. The one error is want of memory.
+/// Adds the items of a list. The one error is out of memory.
 fn add_items(
     alloc: Global,
     out: &mut Vec<u8>,
@@ -129,7 +129,7 @@ fn add_items(
     Ok(())
 }
 
-/// The addresses of items that stand one behind the other. The one error is want of memory.
+/// The addresses of items that stand one behind the other. The one error is out of memory.
 fn item_addresses(
     alloc: Global,
     layout: &Layout,
@@ -152,7 +152,7 @@ fn item_addresses(
 }
 
 /// Adds a list that is to stand at an address: its record, the addresses of its items, and these. The one error is
-/// want of memory.
+/// out of memory.
 fn add_list(
     alloc: Global,
     out: &mut Vec<u8>,
@@ -191,7 +191,7 @@ fn add_list(
     add_items(alloc, out, layout, types, items)
 }
 
-/// Adds a value that is to stand at an address. The one error is want of memory.
+/// Adds a value that is to stand at an address. The one error is out of memory.
 pub(crate) fn add_value(
     alloc: Global,
     out: &mut Vec<u8>,

@@ -1,6 +1,7 @@
 -- Of each item of a list something is told, in order, and nothing else.
 use Rattle.std.specs.Prelude.{◌≡◌, ⊤, Bool, true, false, List, [], ◌∷◌, Option, Some, None}
 
+-- two lists of one length, of which each item tells of the one at its place
 unfoldable pub EachTold : {A B : Type 0} → (A → B → Type 0) → List A → List B → Type 0
 EachTold Tells [] [] = ⊤
 EachTold Tells [] (y ∷ ys) = ⊥

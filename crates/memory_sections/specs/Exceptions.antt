@@ -34,6 +34,7 @@ LastBy l None m a told = told ≡ None
 LastBy l (Some d) m a None = ⊥
 LastBy l (Some d) m a (Some it) = IsLast l d m a (last_shown it)
 
+-- the exceptions of an interpreter's threads, and its last one
 pub record AreExceptionsBy (l : Layout) (d : Option Described) (m : Memory) (i : SalvagedInterpreter)
     (told : InterpreterExceptions) : Type 0 where
   pub interpreter_is : told.interpreter ≡ i.front.address
@@ -47,6 +48,7 @@ pub record AreExceptions (l : Layout) (r : Records) (m : Memory) (is : List Salv
   pub described : AreDescribed l r places
   pub are : EachTold (AreExceptionsBy l places m) is told.items
 
+-- the exceptions of each interpreter, exactly where they are asked for
 abbrev pub ExceptionsAre : Bool → Layout → Records → Memory → List SalvagedInterpreter
     → Option (Vec InterpreterExceptions Global) → Type 0
 ExceptionsAre asked l r m is told = ToldIf asked (AreExceptions l r m is) told

@@ -18,6 +18,7 @@ use Rattle.py_heap.specs.declared.heap.InterpreterHeap.{InterpreterHeap}
 use Rattle.py_heap.specs.declared.places.HeapPlaces.{HeapPlaces}
 use Rattle.memory_sections.specs.Each.{EachTold, ToldIf}
 
+-- the address of an interpreter
 abbrev pub address_of : SalvagedInterpreter → ℕ
 address_of i = i.front.address
 
@@ -37,6 +38,7 @@ pub record IsHeapOf (l : Layout) (p : HeapPlaces) (bases : List ℕ) (m : Memory
   pub interpreter_is : told.interpreter ≡ i.front.address
   pub is : IsHeapAt l p bases m i.front.address told.told
 
+-- the heap of the runtime (up to 3.8), or one of each interpreter (from 3.9 on)
 abbrev pub AreHeapsBy : Known → Layout → HeapPlaces → Memory → List SalvagedInterpreter → Home → Heaps → Type 0
 AreHeapsBy k l p m is Runtime NotDescribed = ⊥
 AreHeapsBy k l p m is Runtime (OfRuntime told) = IsRuntimeHeap k l p m told
@@ -45,6 +47,7 @@ AreHeapsBy k l p m is Interpreter NotDescribed = ⊥
 AreHeapsBy k l p m is Interpreter (OfRuntime told) = ⊥
 AreHeapsBy k l p m is Interpreter (OfInterpreters told) = EachTold (IsHeapOf l p (map address_of is) m) is told.items
 
+-- the types `set` and `frozenset`, where both addresses are known
 abbrev pub classes_by : (set frozenset : Option ℕ) → Option SetClasses
 classes_by None frozenset = None
 classes_by (Some set) None = None
@@ -54,6 +57,7 @@ classes_by (Some set) (Some frozenset) = Some (record { set = set; frozenset = f
 abbrev pub set_classes : Known → Option SetClasses
 set_classes k = classes_by (symbol_known k (codes "PySet_Type")) (symbol_known k (codes "PyFrozenSet_Type"))
 
+-- the heaps, where the records tell where the collector's lists stand
 abbrev pub AreHeapsIf : Known → Layout → Option HeapPlaces → Memory → List SalvagedInterpreter → Heaps → Type 0
 AreHeapsIf k l None m is told = told ≡ NotDescribed
 AreHeapsIf k l (Some p) m is told = AreHeapsBy k l p m is p.lists.home told
@@ -63,6 +67,7 @@ AreHeapsIf k l (Some p) m is told = AreHeapsBy k l p m is p.lists.home told
 abbrev pub AreHeaps : Known → Version → Layout → Records → Memory → List SalvagedInterpreter → Heaps → Type 0
 AreHeaps k v l r m is told = AreHeapsIf k l (heap_places v l r (set_classes k)) m is told
 
+-- what fills the heap, exactly where it is asked for
 abbrev pub HeapIs : Bool → Known → Version → Layout → Records → Memory → List SalvagedInterpreter → Option Heaps
     → Type 0
 HeapIs asked k v l r m is told = ToldIf asked (AreHeaps k v l r m is) told

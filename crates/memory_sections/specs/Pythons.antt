@@ -5,9 +5,11 @@ use Rattle.py_fronts.specs.declared.thread_front.ThreadFront.{ThreadFront}
 use Rattle.py_fronts.specs.declared.salvaged.SalvagedInterpreter.{SalvagedInterpreter}
 use Rattle.thread_registers.specs.declared.threads.PythonThread.{PythonThread}
 
+-- a thread's ids: the interpreter's and, where it is told, the system's
 abbrev pub python_thread : ThreadFront → PythonThread
 python_thread t = record { thread_id = t.thread_id; native_id = t.os_thread_id }
 
+-- the ids of an interpreter's threads, in order
 abbrev pub threads_of : SalvagedInterpreter → List PythonThread
 threads_of i = map python_thread i.front.threads.threads.items
 

@@ -42,9 +42,11 @@ abbrev pub lost_text : ℕ → Option NamesError → List ℕ
 lost_text id None = []
 lost_text id (Some e) = lost_lead id ++ (thread_fault_word e ++ codes "\n")
 
+-- the line of a thread's name, or of why it can't be read
 abbrev pub thread_text : ThreadName → List ℕ
 thread_text t = name_text t.thread_id t.name ++ lost_text t.thread_id t.fault
 
+-- the lines of threads' names
 abbrev pub threads_text : List ThreadName → List ℕ
 threads_text threads = concat (map (λ t. thread_text t) threads)
 
@@ -65,33 +67,40 @@ abbrev pub fault_line : ℕ → Option NamesError → List ℕ
 fault_line interpreter None = []
 fault_line interpreter (Some e) = fault_lead interpreter ++ (fault_word e ++ codes "\n")
 
+-- the line of why an interpreter's names can't be read
 abbrev pub fault_text : InterpreterNames → List ℕ
 fault_text i = fault_line i.interpreter i.fault
 
+-- the names of an interpreter's threads
 abbrev pub interpreter_text : InterpreterNames → List ℕ
 interpreter_text i = fault_text i ++ (threads_text i.threads.items ++ unread_text i)
 
+-- the names of all threads, by interpreter
 abbrev pub all_names_text : List InterpreterNames → List ℕ
 all_names_text names = concat (map (λ i. interpreter_text i) names)
 
+-- the section of names; nothing where it isn't asked for
 abbrev pub names_text : Option (Vec InterpreterNames Global) → List ℕ
 names_text None = []
 names_text (Some names) = all_names_text names.items
 
 -- ---- tasks
 
+-- the section of tasks; nothing where it isn't asked for
 abbrev pub tasks_text : Option (Vec InterpreterTasks Global) → List ℕ
 tasks_text None = []
 tasks_text (Some tasks) = all_tasks_text tasks.items
 
 -- ---- exceptions
 
+-- the section of exceptions; nothing where it isn't asked for
 abbrev pub exceptions_text : Option (Vec InterpreterExceptions Global) → List ℕ
 exceptions_text None = []
 exceptions_text (Some exceptions) = all_exceptions_text exceptions.items
 
 -- ---- waits
 
+-- the section of waits; nothing where it isn't asked for
 abbrev pub waits_text : Option (Vec InterpreterWaits Global) → List ℕ
 waits_text None = []
 waits_text (Some waits) = all_waits_text waits.items
@@ -103,6 +112,7 @@ abbrev pub pairs_given : Option (Vec (Option PairedStack) Global) → List (Opti
 pairs_given None = []
 pairs_given (Some pairs) = pairs.items
 
+-- the section of native stacks; nothing where it isn't asked for
 abbrev pub native_text : (limit : ℕ) → List SalvagedInterpreter → Option NativeStacks → List (Option PairedStack)
     → List ℕ
 native_text limit is None pairs = []
@@ -110,6 +120,7 @@ native_text limit is (Some stacks) pairs = stacks_text limit is (stacks_shown st
 
 -- ---- what heaps hold
 
+-- the section of the heap; nothing where it isn't asked for
 abbrev pub heap_text : Option Heaps → List ℕ
 heap_text None = []
 heap_text (Some heaps) = heaps_text heaps

@@ -46,9 +46,11 @@ use Rattle.memory_sections.specs.declared.told.MemoryTold.{MemoryTold}
 
 -- ---- names
 
+-- the id that the interpreter gave a thread
 abbrev pub id_of : ThreadFront → ℕ
 id_of t = t.thread_id
 
+-- the ids that an interpreter gave its threads, in order
 abbrev pub ids_of : SalvagedInterpreter → List ℕ
 ids_of i = map id_of i.front.threads.threads.items
 
@@ -57,6 +59,7 @@ abbrev pub rule_by : Layout → TypeRecords → Option KlassRecord → Option He
 rule_by l t (Some k) (Some h) = Some (record { fields = instance_of l k h; form = form_of t })
 rule_by l t _ _ = None
 
+-- how attributes of instances are found, where the records tell it
 abbrev pub rule_of : Layout → Records → Option DictRule
 rule_of l r = rule_by l r.types r.types.klass r.types.heap_type
 
@@ -65,6 +68,7 @@ abbrev pub coroutine_rule_by : Option GeneratorRecord → Option Family → Opti
 coroutine_rule_by (Some generator) (Some family) = Some (record { name = generator.name; family = family })
 coroutine_rule_by _ _ = None
 
+-- how coroutines are read, where the records tell it
 abbrev pub coroutine_rule_of : Layout → Records → Option CoroutineRule
 coroutine_rule_of l r = coroutine_rule_by r.coroutines.generator (family_of l r)
 
@@ -72,6 +76,7 @@ coroutine_rule_of l r = coroutine_rule_by r.coroutines.generator (family_of l r)
 abbrev pub AreNamesOf : Layout → Option DictRule → Memory → SalvagedInterpreter → InterpreterNames → Type 0
 AreNamesOf l rule m i told = names_shown told ≡ names_told l rule m i.front.address (ids_of i)
 
+-- the names of each interpreter's threads, exactly where they are asked for
 abbrev pub NamesAre : Bool → Layout → Option DictRule → Memory → List SalvagedInterpreter
     → Option (Vec InterpreterNames Global) → Type 0
 NamesAre asked l rule m is told =
@@ -95,6 +100,7 @@ pub record AreTasksOf (l : Layout) (r : Records) (m : Memory) (slots : ℕ) (i :
   pub are : tasks_at l r m slots i.front.address ≡ Ok (tasks_shown told.tasks)
   pub others : frameworks_at l m i.front.address ≡ Ok told.frameworks
 
+-- the tasks of each interpreter, exactly where they are asked for
 abbrev pub TasksAre : Bool → Layout → Records → Memory → List SalvagedInterpreter
     → Option (Vec InterpreterTasks Global) → Type 0
 TasksAre asked l r m is told = ToldIf asked
@@ -115,6 +121,7 @@ pub record AreNative (strict crashed : Bool) (bytes : List ℕ) (images : Pushed
   pub are : AreNotesOfCore bytes notes
   pub told : AreNativeStacks bytes (asked_notes crashed notes) images m pythons strict (stacks_shown stacks)
 
+-- the native stacks, exactly where they are asked for
 abbrev pub NativeAre : Bool → Bool → Bool → List ℕ → Pushed → Memory → List SalvagedInterpreter → Option NativeStacks
     → Type 0
 NativeAre asked strict crashed bytes images m is told =

@@ -18,30 +18,37 @@ use Rattle.task_texts.specs.declared.told.InterpreterTasks.{InterpreterTasks}
 use Rattle.thread_names.specs.Trees.{names_tree}
 use Rattle.thread_names.specs.declared.names.InterpreterNames.{InterpreterNames}
 
+-- JSON of the names; null where they aren't asked for
 abbrev pub names_tree_if : Option (Vec InterpreterNames Global) → Data
 names_tree_if None = null
 names_tree_if (Some names) = names_tree names.items
 
+-- JSON of the tasks; null where they aren't asked for
 abbrev pub tasks_tree_if : Option (Vec InterpreterTasks Global) → Data
 tasks_tree_if None = null
 tasks_tree_if (Some tasks) = all_tasks_tree tasks.items
 
+-- JSON of the exceptions; null where they aren't asked for
 abbrev pub exceptions_tree_if : Option (Vec InterpreterExceptions Global) → Data
 exceptions_tree_if None = null
 exceptions_tree_if (Some exceptions) = all_exceptions_tree exceptions.items
 
+-- JSON of the waits; null where they aren't asked for
 abbrev pub waits_tree_if : Option (Vec InterpreterWaits Global) → Data
 waits_tree_if None = null
 waits_tree_if (Some waits) = waits_tree waits.items
 
+-- JSON of the native stacks; null where they aren't asked for
 abbrev pub native_tree_if : (limit : ℕ) → Option NativeStacks → Data
 native_tree_if limit None = null
 native_tree_if limit (Some stacks) = stacks_tree limit (stacks_shown stacks)
 
+-- JSON of the stacks in one; null where native stacks aren't asked for
 abbrev pub paired_tree_if : Option (Vec (Option PairedStack) Global) → Data
 paired_tree_if None = null
 paired_tree_if (Some stacks) = paired_tree stacks.items
 
+-- JSON of the heap; null where it isn't asked for
 abbrev pub heap_tree_if : Option Heaps → Data
 heap_tree_if None = null
 heap_tree_if (Some heaps) = heaps_tree heaps

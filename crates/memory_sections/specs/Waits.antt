@@ -29,6 +29,7 @@ use Rattle.memory_sections.specs.declared.waits.Standing.{Standing}
 
 -- ---- where threads stand
 
+-- a native thread's id and the word that it waits at, by its status record
 abbrev pub standing_in : Machine → List ℕ → Standing
 standing_in machine status = record { thread = status_thread machine status; at = futex_of machine status }
 
@@ -37,6 +38,7 @@ unfoldable pub standing_noted : Machine → Noted → Option Standing
 standing_noted machine note = if is_of_kind status_kind note && nat_le 112 (length note.desc)
     then Some (standing_in machine note.desc) else None
 
+-- where the native threads stand, by the core's status records
 abbrev pub standings_of : Machine → List Noted → List Standing
 standings_of machine notes = filter_map (standing_noted machine) notes
 
@@ -46,10 +48,12 @@ pub record AreStandings (bytes : List ℕ) (standings : List Standing) : Type 0 
   pub noted : AreNotesOfCore bytes notes
   pub are : standings ≡ standings_of (machine_of bytes) notes
 
+-- the word that a native thread waits at
 abbrev pub word_by : Option Standing → Option ℕ
 word_by None = None
 word_by (Some s) = s.at
 
+-- the word that the native thread of this number waits at
 abbrev pub word_of : List Standing → ℕ → Option ℕ
 word_of standings index = word_by (slice_get standings index)
 
@@ -60,10 +64,12 @@ stands_at standings t =
 
 -- ---- what they wait for
 
+-- what a thread waits for, where it waits at a word
 abbrev pub wait_by : Layout → Memory → WaitPlaces → Option LockRange → ℕ → Option ℕ → Found (Option Wait)
 wait_by l m p gil thread None = Ok None
 wait_by l m p gil thread (Some at) = wait_at l m p gil thread at
 
+-- what one thread waits for
 pub record IsWaitOf (standings : List Standing) (l : Layout) (m : Memory) (p : WaitPlaces) (gil : Option LockRange)
     (t : ThreadFront) (told : ThreadWait) : Type 0 where
   pub thread_is : told.thread_id ≡ t.thread_id
@@ -86,6 +92,7 @@ pub record AreWaits (bytes : List ℕ) (k : Known) (l : Layout) (r : Records) (m
   pub stand : AreStandings bytes standings
   pub are : EachTold (AreWaitsOf k l r m standings) is told.items
 
+-- what the threads of each interpreter wait for, exactly where it is asked for
 abbrev pub WaitsAre : Bool → List ℕ → Known → Layout → Records → Memory → List SalvagedInterpreter
     → Option (Vec InterpreterWaits Global) → Type 0
 WaitsAre asked bytes k l r m is told = ToldIf asked (AreWaits bytes k l r m is) told

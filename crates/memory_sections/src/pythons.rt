@@ -28,7 +28,7 @@ fn chain_threads(alloc: Global, threads: &[ThreadFront]) -> Result<Vec<PythonThr
 }
 
 /// The threads of all interpreters that are shown, by their ids, in the order of the interpreters and of their chains.
-/// The one error is want of memory.
+/// The one error is out of memory.
 pub fn python_threads(
     alloc: Global,
     interpreters: &[SalvagedInterpreter],

@@ -65,7 +65,7 @@ pub fn names_told(told: &MemoryTold) -> &[InterpreterNames]
 /// records of its version and the images with which it was opened; with the values of locals, by so many `-l`. Reads
 /// that are refused are kept.
 ///
-/// What can't be had of a section is told in it. The one error is want of memory.
+/// What can't be had of a section is told in it. The one error is out of memory.
 pub fn tell_memory(
     alloc: Global,
     asked: Sections,

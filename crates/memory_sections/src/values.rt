@@ -8,7 +8,7 @@ use crate::told::MemoryTold;
 use serde_json::Value;
 use std::alloc::{AllocError, Global};
 
-/// The names, by interpreters (`thread_names::names_value`), or null. The one error is want of memory.
+/// The names, by interpreters (`thread_names::names_value`), or null. The one error is out of memory.
 pub fn names_value(alloc: Global, told: &MemoryTold) -> Result<Value, AllocError>
     ensures { IfOk result (λ value. view value ≡ names_tree_if told.now.names) }
 {
@@ -18,7 +18,7 @@ pub fn names_value(alloc: Global, told: &MemoryTold) -> Result<Value, AllocError
     }
 }
 
-/// The tasks, by interpreters (`task_texts::tasks_value`), or null. The one error is want of memory.
+/// The tasks, by interpreters (`task_texts::tasks_value`), or null. The one error is out of memory.
 pub fn tasks_value(alloc: Global, told: &MemoryTold) -> Result<Value, AllocError>
     ensures { IfOk result (λ value. view value ≡ tasks_tree_if told.now.tasks) }
 {
@@ -39,7 +39,7 @@ pub fn exceptions_value(alloc: Global, told: &MemoryTold) -> Result<Value, Alloc
     }
 }
 
-/// What the threads wait for, by interpreters (`py_waits::waits_value`), or null. The one error is want of memory.
+/// What the threads wait for, by interpreters (`py_waits::waits_value`), or null. The one error is out of memory.
 pub fn waits_value(alloc: Global, told: &MemoryTold) -> Result<Value, AllocError>
     ensures { IfOk result (λ value. view value ≡ waits_tree_if told.now.waits) }
 {
@@ -50,7 +50,7 @@ pub fn waits_value(alloc: Global, told: &MemoryTold) -> Result<Value, AllocError
 }
 
 /// The native stacks (`native_stacks::native_value`), of each the first and the last `limit` frames; or null. The one
-/// error is want of memory.
+/// error is out of memory.
 pub fn native_value(alloc: Global, limit: usize, told: &MemoryTold) -> Result<Value, AllocError>
     ensures { IfOk result (λ value. view value ≡ native_tree_if limit told.now.native) }
 {
@@ -61,7 +61,7 @@ pub fn native_value(alloc: Global, limit: usize, told: &MemoryTold) -> Result<Va
 }
 
 /// One stack of the Python frames and the native ones of each thread (`paired_stacks::paired_value`), or null. The one
-/// error is want of memory.
+/// error is out of memory.
 pub fn paired_value(alloc: Global, told: &MemoryTold) -> Result<Value, AllocError>
     ensures { IfOk result (λ value. view value ≡ paired_tree_if told.now.stacks) }
 {
@@ -71,7 +71,7 @@ pub fn paired_value(alloc: Global, told: &MemoryTold) -> Result<Value, AllocErro
     }
 }
 
-/// What the heaps hold (`heap_texts::heaps_value`), or null. The one error is want of memory.
+/// What the heaps hold (`heap_texts::heaps_value`), or null. The one error is out of memory.
 pub fn heap_value(alloc: Global, told: &MemoryTold) -> Result<Value, AllocError>
     ensures { IfOk result (λ value. view value ≡ heap_tree_if told.now.heap) }
 {

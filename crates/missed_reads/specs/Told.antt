@@ -10,6 +10,7 @@ pub record RefusedTold : Type 0 where
   pub numbers : List ℕ
   pub above : ℕ
 
+-- the refused reads, as blocks of addresses
 abbrev pub told_of : Refused → RefusedTold
 told_of r = record { numbers = r.blocks.keys; above = r.above }
 
@@ -17,12 +18,15 @@ told_of r = record { numbers = r.blocks.keys; above = r.above }
 abbrev pub blocks_told : MissedBlocks → RefusedTold
 blocks_told m = record { numbers = m.numbers.items; above = m.above }
 
+-- JSON of the number of a block
 abbrev pub number_tree : ℕ → Data
 number_tree n = number (unsigned n)
 
+-- JSON of the numbers of blocks
 abbrev pub numbers_tree : List ℕ → Data
 numbers_tree numbers = array (items_of (map number_tree numbers))
 
+-- JSON of the refused reads
 abbrev pub missed_tree : RefusedTold → Data
 missed_tree told = object (
     member (codes "above") (number_tree told.above) (

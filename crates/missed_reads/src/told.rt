@@ -16,7 +16,7 @@ pub struct MissedBlocks {
     pub above: u64,
 }
 
-/// What is kept, as it is told. The one error is want of memory.
+/// What is kept, as it is told. The one error is out of memory.
 pub fn missed_blocks(alloc: Global, misses: &Misses) -> Result<MissedBlocks, AllocError>
     ensures { IfOk result (λ told. blocks_told told ≡ told_of misses.now) }
 {
@@ -41,7 +41,7 @@ fn numbers_value(alloc: Global, numbers: &[u64]) -> Result<Value, AllocError>
 /// What was refused as a JSON value: an object with `above`, how many refused ranges don't lie in the blocks, and
 /// `blocks`, the numbers of these, ascending.
 ///
-/// The keys of an object stand in the order of their bytes. The one error is want of memory.
+/// The keys of an object stand in the order of their bytes. The one error is out of memory.
 pub fn missed_value(alloc: Global, missed: &MissedBlocks) -> Result<Value, AllocError>
     ensures { IfOk result (λ value. view value ≡ missed_tree (blocks_told missed.now)) }
 {

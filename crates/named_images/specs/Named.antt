@@ -14,5 +14,6 @@ images_by [] images = []
 images_by (bytes ∷ rest) [] = []
 images_by (bytes ∷ rest) (image ∷ images) = (image.0, whole_view bytes) ∷ images_by rest images
 
+-- the images that the arguments name, with what their files hold
 abbrev pub images_read : List (List ℕ × List ℕ) → List (List ℕ) → Pushed
 images_read images contents = images_by contents images

@@ -12,6 +12,7 @@ abbrev pub HasNone : Option (List ℕ) → Type 0
 HasNone None = Unit {0}
 HasNone (Some bytes) = IsOpened bytes None
 
+-- what is made of the file of a number: its symbols, or nothing
 abbrev pub IsMade : List Mapping → ℕ → Option (List SymbolEntry) → Type 0
 IsMade mappings file None = HasNone (bytes_of mappings file)
 IsMade mappings file (Some symbols) = IsKept mappings file symbols

@@ -20,6 +20,7 @@ frame_machine elf.X86_64 = Some X86_64
 frame_machine elf.Aarch64 = Some Aarch64
 frame_machine elf.Other = None
 
+-- the bits of an address, by the mask of code's addresses; 48 bits where there is no such note
 abbrev pub address_bits : Option (List ℕ) → ℕ
 address_bits None = 2 ^ 48 - 1
 address_bits (Some masks) = if nat_lt (length masks) 16 then 2 ^ 48 - 1 else (2 ^ 64 - 1) - u64_in masks 8

@@ -16,6 +16,7 @@ pub record MappingShown : Type 0 where
   pub file : ℕ
   pub bytes : Option (List ℕ)
 
+-- a mapping in plain terms
 abbrev pub mapping_shown : Mapping → MappingShown
 mapping_shown m = record {
   start = m.start;
@@ -29,6 +30,7 @@ mapping_shown m = record {
 abbrev pub bytes_under : Pushed → List ℕ → Option (List ℕ)
 bytes_under images path = option_map shown_bytes (first_under path images)
 
+-- the mapping of an entry of a file table, with its file's number, and the bytes handed in under its path
 abbrev pub row_mapping : Pushed → (number : ℕ) → Row → MappingShown
 row_mapping images number row = record {
   start = row.start;
@@ -43,9 +45,11 @@ abbrev pub mappings_from : Pushed → (number : ℕ) → List Row → List Mappi
 mappings_from images number [] = []
 mappings_from images number (row ∷ rows) = row_mapping images number row ∷ mappings_from images (number + 1) rows
 
+-- the paths of entries, in order
 abbrev pub names_of : List Row → List (List ℕ)
 names_of rows = map (λ (row : Row). row.name) rows
 
+-- the mapping of the vdso under a file number, where the core has it
 abbrev pub vdso_mappings : (number : ℕ) → Option (ℕ × List ℕ) → List MappingShown
 vdso_mappings number None = []
 vdso_mappings number (Some v) = record {
@@ -56,6 +60,7 @@ vdso_mappings number (Some v) = record {
   bytes = Some v.1;
 } ∷ []
 
+-- the name that stands for the vdso's path, where the core has it
 abbrev pub vdso_names : Option (ℕ × List ℕ) → List (List ℕ)
 vdso_names None = []
 vdso_names (Some v) = codes "[vdso]" ∷ []

@@ -15,9 +15,11 @@ use Rattle.native_frames.specs.declared.stacks.NativeFrame.{NativeFrame}
 abbrev pub offset_in : (address more : ℕ) → SymbolEntry → ℕ
 offset_in address more s = ((address - s.value) + more) % 2 ^ 64
 
+-- the function of a symbol that has a name, and how far into it the address is, in bytes
 abbrev pub function_of : (address more : ℕ) → SymbolEntry → Option Function
 function_of address more s = option_map (λ name. record { name = name; offset = offset_in address more s }) s.name
 
+-- the same by a symbol's number among the symbols, where one covers the address
 abbrev pub function_by : List SymbolEntry → (address more : ℕ) → Option ℕ → Option Function
 function_by symbols address more found =
     option_and_then (function_of address more) (option_and_then (λ number. slice_get symbols number) found)
@@ -28,11 +30,13 @@ pub record IsFunctionAmong (symbols : List SymbolEntry) (address more : ℕ) (fu
   pub covers : Covering symbols address found
   pub is : function ≡ function_by symbols address more found
 
+-- the function in an ELF file; none where it is no such file
 abbrev pub IsFunctionBy : Option (List ℕ) → (address more : ℕ) → Option Function → Type 0
 IsFunctionBy None address more function = function ≡ None
 IsFunctionBy (Some file) address more function =
     (symbols : List SymbolEntry) × AreImageSymbols file symbols × IsFunctionAmong symbols address more function
 
+-- the function in a file; none where the file is not at hand
 abbrev pub IsFunctionIn : Option (List ℕ) → (address more : ℕ) → Option Function → Type 0
 IsFunctionIn None address more function = function ≡ None
 IsFunctionIn (Some bytes) address more function =
@@ -47,6 +51,7 @@ bytes_of mappings file =
 abbrev pub bytes_behind : Frame → ℕ
 bytes_behind f = if f.is_exact then 0 else 1
 
+-- the function of a frame by the place where it stands; none where that is in no file
 abbrev pub IsFunctionAt : List Mapping → Frame → Option CodePlace → Option Function → Type 0
 IsFunctionAt mappings f None function = function ≡ None
 IsFunctionAt mappings f (Some place) function =

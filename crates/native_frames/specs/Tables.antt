@@ -15,6 +15,7 @@ pub record Row : Type 0 where
   pub offset : ℕ
   pub name : List ℕ
 
+-- the entry of a number, counted from 0, with this path (`NT_FILE`)
 abbrev pub row_at : List ℕ → (number : ℕ) → List ℕ → Row
 row_at table number name = record {
   start = u64_in table (16 + 24 * number);
@@ -56,5 +57,6 @@ RowsSay (note ∷ notes) rows = RowsNext (is_table note) note.desc (RowsSay note
 
 -- ---- as they are read
 
+-- an entry in plain terms
 abbrev pub row_of : FileRow → Row
 row_of r = record { start = r.start; end = r.end; offset = r.offset; name = r.name.now }

@@ -31,6 +31,7 @@ base_from base (byte ∷ path) = base_from (if byte == 47 then path else base) p
 abbrev pub base_behind : (base path : List ℕ) → (index : ℕ) → List ℕ
 base_behind base path index = if slice_index_or path index 0 == 47 then drop (index + 1) path else base
 
+-- what stands behind the last slash of a path; the whole path where there is none
 abbrev pub base_name : List ℕ → List ℕ
 base_name path = base_from path path
 
@@ -38,10 +39,12 @@ base_name path = base_from path path
 abbrev pub name_text : List ℕ → List ℕ
 name_text name = escaped true (lossy_chars name)
 
+-- the name of a frame's file in parentheses, without its directories; nothing where it is not known
 abbrev pub file_text : Option (List ℕ) → List ℕ
 file_text (Some path) = codes " (" ++ (name_text (base_name path) ++ codes ")")
 file_text None = []
 
+-- a function, and how far into it the frame stands, as in `main+0x1f`
 abbrev pub function_text : Function → List ℕ
 function_text f = name_text f.name ++ (codes "+0x" ++ digits 16 false f.offset)
 
@@ -55,6 +58,7 @@ abbrev pub place_text : List (List ℕ) → NativeFrame → Option CodePlace →
 place_text files f (Some place) = where_text f.function place ++ file_text (slice_get files place.file)
 place_text files f None = codes "(in no file)"
 
+-- a mark, where it holds; else nothing
 abbrev pub mark_text : Bool → List ℕ → List ℕ
 mark_text true mark = mark
 mark_text false mark = []
@@ -74,12 +78,15 @@ guess_text by.Epilogue = codes "epilogue"
 guess_text by.FramePointer = codes "frame pointer"
 guess_text by.Jump = codes "jumped to no code"
 
+-- how the line before guessed frames begins
 unfoldable pub guess_word : List ℕ
 guess_word = codes "    ... guess: "
 
+-- the line before guessed frames: by what they were guessed
 abbrev pub guess_line : Mark → List ℕ
 guess_line mark = guess_word ++ (guess_text mark ++ codes "\n")
 
+-- that line, where the frames are guessed
 abbrev pub lead_text : Option Mark → List ℕ
 lead_text (Some mark) = guess_line mark
 lead_text None = []
@@ -91,9 +98,11 @@ frame_line files is_guess f =
     ++ (mark_text f.frame.is_signal (codes " <signal>") ++ (found_text f.frame.mark
     ++ mark_text is_guess (codes " <guess>"))))))
 
+-- the line of a native frame, with its line feed
 abbrev pub frame_text : List (List ℕ) → (is_guess : Bool) → NativeFrame → List ℕ
 frame_text files is_guess f = frame_line files is_guess f ++ codes "\n"
 
+-- the lines of some frames
 abbrev pub frames_text : List (List ℕ) → (is_guess : Bool) → List NativeFrame → List ℕ
 frames_text files is_guess frames = concat (map (λ f. frame_text files is_guess f) frames)
 
@@ -110,6 +119,7 @@ no_file_text files at (Some file) =
     ++ (file_text (slice_get files file) ++ codes "\n")))
 no_file_text files at None = codes "    ... 0x" ++ (digits 16 false at ++ codes " is in no file\n")
 
+-- why a frame's table does not say how it goes on
 abbrev pub refusal_text : Refusal → List ℕ
 refusal_text (why.Table error) = codes "the table of its file can't be read"
 refusal_text (why.Record error) = codes "its record can't be read"
@@ -117,6 +127,7 @@ refusal_text (why.Row error) = codes "its rules can't be read"
 refusal_text why.Cfa = codes "its canonical frame address is not known"
 refusal_text why.ReturnAddress = codes "its return address is not known"
 
+-- at which limit a stack was cut
 abbrev pub limit_text : Limit → List ℕ
 limit_text most.Frames = codes "cut: no more frames are read"
 limit_text most.Signals = codes "cut: no more frames of signals are read"
@@ -143,9 +154,11 @@ first_frames limit frames = take (min limit (length frames)) frames
 abbrev pub last_frames : (limit : ℕ) → List NativeFrame → List NativeFrame
 last_frames limit frames = drop (min (max limit (length frames - limit)) (length frames)) frames
 
+-- how many frames stand between the first so many and the last so many
 abbrev pub frames_between : (limit : ℕ) → List NativeFrame → ℕ
 frames_between limit frames = (length frames - limit) - limit
 
+-- the lines of a stack: its first frames, how many are left out, its last ones, and how it ends
 abbrev pub stack_text : List (List ℕ) → (is_guess : Bool) → (limit : ℕ) → StackShown → List ℕ
 stack_text files is_guess limit s =
     lead_text s.guess ++ (frames_text files is_guess (first_frames limit s.frames)

@@ -51,6 +51,7 @@ abbrev pub IsGuessUnless : (strict : Bool) → List Mapping → Machine → Memo
 IsGuessUnless true mappings machine m chain guess = guess ≡ None
 IsGuessUnless false mappings machine m chain guess = IsGuess mappings machine m chain guess
 
+-- how a stack is followed: on which machine, with which bits of addresses, and whether frame pointers are guessed
 abbrev pub manner_of : Machine → (code_bits : ℕ) → (guesses : Bool) → Manner
 manner_of machine code_bits guesses = record { machine = machine; code_bits = code_bits; guesses = guesses }
 
@@ -73,11 +74,14 @@ pub record StackPair (mappings : List Mapping) (machine : Machine) (code_bits : 
 
 -- ---- as they are read
 
+-- a stack in plain terms
 abbrev pub stack_shown : ThreadStack → StackShown
 stack_shown s = record { frames = s.frames.items; end = s.end; missing = s.missing; guess = s.guess }
 
+-- a stack in plain terms, where there is one
 abbrev pub stack_shown_if : Option ThreadStack → Option StackShown
 stack_shown_if s = option_map stack_shown s
 
+-- a stack and the one behind a guess, in plain terms
 abbrev pub pair_of : StackParts → StackShown × Option StackShown
 pair_of p = (stack_shown p.stack, stack_shown_if p.guessed)

@@ -15,6 +15,7 @@ use Rattle.native_frames.specs.declared.stacks.NativeFrame.{NativeFrame}
 use Rattle.native_frames.specs.Text.{address_text, first_frames, frames_between, guess_text, last_frames}
 use Rattle.native_frames.specs.Threads.{StackShown}
 
+-- an address as a text, as in `0x1f`; null where there is none
 abbrev pub address_tree : Option ℕ → Data
 address_tree (Some address) = string (address_text address)
 address_tree None = null
@@ -23,6 +24,7 @@ address_tree None = null
 abbrev pub name_tree : List ℕ → Data
 name_tree name = string (encode_utf8_all (lossy_chars name))
 
+-- the path of a file; null where there is none
 abbrev pub missing_tree : Option (List ℕ) → Data
 missing_tree (Some path) = name_tree path
 missing_tree None = null
@@ -32,18 +34,22 @@ abbrev pub file_tree : List (List ℕ) → Option ℕ → Data
 file_tree files (Some file) = missing_tree (slice_get files file)
 file_tree files None = null
 
+-- the name of a frame's function; null where none covers its address
 abbrev pub function_name_tree : Option Function → Data
 function_name_tree (Some f) = name_tree f.name
 function_name_tree None = null
 
+-- how far into its function a frame stands, in bytes, as a number; null where there is none
 abbrev pub offset_tree : Option Function → Data
 offset_tree (Some f) = number (unsigned f.offset)
 offset_tree None = null
 
+-- the number of the file in which a frame stands
 abbrev pub place_file : Option CodePlace → Option ℕ
 place_file (Some place) = Some place.file
 place_file None = None
 
+-- the file's own address at which a frame stands
 abbrev pub place_address : Option CodePlace → Option ℕ
 place_address (Some place) = Some place.address
 place_address None = None
@@ -66,11 +72,13 @@ frame_tree files f = object (
     member (codes "pc") (address_tree (Some f.frame.pc)) (
     member (codes "signal") (boolean f.frame.is_signal) no_members)))))))))
 
+-- some frames, as an array
 abbrev pub frames_tree : List (List ℕ) → List NativeFrame → Data
 frames_tree files frames = array (items_of (map (λ f. frame_tree files f) frames))
 
 -- ---- ends
 
+-- the word for how a stack ends
 abbrev pub end_kind : End → List ℕ
 end_kind how.Whole = codes "whole"
 end_kind (how.NoTable at) = codes "no table"
@@ -93,6 +101,7 @@ end_address (how.NoFile at) = Some at
 end_address (how.Unreadable at) = Some at
 end_address other = None
 
+-- how a stack ends: the address, the file that is not at hand, and the word for it
 abbrev pub end_tree : List (List ℕ) → End → Option ℕ → Data
 end_tree files end missing = object (
     member (codes "at") (address_tree (end_address end)) (
@@ -101,6 +110,7 @@ end_tree files end missing = object (
 
 -- ---- a stack
 
+-- a stack: its first frames, how many are left out, its last ones, by what it was guessed, and how it ends
 abbrev pub stack_tree : List (List ℕ) → (limit : ℕ) → StackShown → Data
 stack_tree files limit s = object (
     member (codes "between") (number (unsigned (frames_between limit s.frames))) (

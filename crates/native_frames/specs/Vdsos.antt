@@ -17,6 +17,7 @@ base_from vector number (suc count) =
     if u64_in vector (16 * number) == 33 then Some (u64_in vector (16 * number + 8))
     else base_from vector (number + 1) count
 
+-- the address that an auxiliary vector has for the vdso (`AT_SYSINFO_EHDR`)
 abbrev pub base_of : List ℕ → Option ℕ
 base_of vector = base_from vector 0 (length vector / 16)
 
@@ -31,6 +32,7 @@ IsVdsoOf core base (Some v) = (v.0 ≡ base) × (start : ℕ)
     × IsRun (core_ranges core) base 65536 0 start (length v.1) × (v.1 ≡ slice_range core start (start + length v.1))
     × (byte_at (memory_of core) base ≡ None → ⊥)
 
+-- the vdso at an address that may not be known; none where it is not
 abbrev pub IsVdsoFor : List ℕ → Option ℕ → Option (ℕ × List ℕ) → Type 0
 IsVdsoFor core None vdso = vdso ≡ None
 IsVdsoFor core (Some base) vdso = IsVdsoOf core base vdso
@@ -41,6 +43,7 @@ IsVdsoIn core notes vdso = IsVdsoFor core (vdso_base notes) vdso
 
 -- ---- as it is read
 
+-- the address of the vdso and its bytes, in plain terms
 abbrev pub vdso_shown : Option Vdso → Option (ℕ × List ℕ)
 vdso_shown None = None
 vdso_shown (Some v) = Some (v.base, v.bytes.now)

@@ -46,7 +46,7 @@ fn add_rows<'a>(
     Ok(())
 }
 
-/// The entries of the file tables among notes, in order. The error is want of memory, or that one is no file table.
+/// The entries of the file tables among notes, in order. The error is out of memory, or that one is no file table.
 fn rows_in<'a>(alloc: Global, notes: &[Note<'a>]) -> Result<Vec<FileRow<'a>>, AllocError>
     ensures { IfOk result (λ rows. RowsSay (map noted notes.now) (map row_of rows.items)) }
 {
@@ -143,7 +143,7 @@ fn add_vdso_name(
     Ok(())
 }
 
-/// The files that a process had mapped, by the notes of its core, and the vdso. The error is want of memory, or that a
+/// The files that a process had mapped, by the notes of its core, and the vdso. The error is out of memory, or that a
 /// file table is none, which those of a core are not.
 pub fn mapped_files<'a>(
     alloc: Global,

@@ -138,7 +138,7 @@ fn named_frame<'a>(
     })
 }
 
-/// Frames with their functions. The one error is want of memory.
+/// Frames with their functions. The one error is out of memory.
 pub(crate) fn named_frames<'a>(
     alloc: Global,
     mappings: &CodeMap<'a>,

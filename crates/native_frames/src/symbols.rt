@@ -58,7 +58,7 @@ fn function_of(
 }
 
 impl<'a> FileSymbols<'a> {
-    /// The symbols of a file. The one error is want of memory.
+    /// The symbols of a file. The one error is out of memory.
     pub(crate) fn of(alloc: Global, elf: &Elf64<'a>) -> Result<FileSymbols<'a>, AllocError>
         ensures { IfOk result (AreImageSymbols elf.now) }
     {

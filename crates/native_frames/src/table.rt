@@ -51,7 +51,7 @@ fn row_at<'a>(table: &[u8], number: usize, name: &'a [u8]) -> FileRow<'a>
     }
 }
 
-/// The entries of a file table. The error is want of memory, or that the bytes are none.
+/// The entries of a file table. The error is out of memory, or that the bytes are none.
 pub(crate) fn table_rows(alloc: Global, table: &[u8]) -> Result<Vec<FileRow<'_>>, AllocError>
     ensures { IfOk result (λ rows. IsRowTable table.now (map row_of rows.items)) }
 {

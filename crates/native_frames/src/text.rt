@@ -176,7 +176,7 @@ fn push_lead(text: &mut String, guess: Option<Mark>) -> Result<(), AllocError>
 
 /// Appends the line of a frame, but for its end: its address, where it stands, whether a signal interrupted it, by what
 /// else than tables its caller was found, and whether it follows from a guess. `files` are the paths by which frames
-/// name files. The one error is want of memory.
+/// name files. The one error is out of memory.
 pub fn push_frame_line(
     alloc: Global,
     text: &mut String,
@@ -310,7 +310,7 @@ fn push_end(
 }
 
 /// Appends the lines that say how a stack ends whose frames stand elsewhere: by what its newest frame was guessed, if it
-/// was, and how it ends, where it is not whole. The one error is want of memory.
+/// was, and how it ends, where it is not whole. The one error is out of memory.
 pub fn push_stack_end(
     alloc: Global,
     text: &mut String,
@@ -348,7 +348,7 @@ pub(crate) fn last_frames(frames: &[NativeFrame], limit: usize) -> &[NativeFrame
 
 /// Appends the lines of a stack: by what it was guessed, if it was, its first `limit` frames, how many stand between,
 /// and its last `limit`, and how it ends, where it is not whole. `files` are the paths by which frames name files;
-/// behind a guess each line says so. The one error is want of memory.
+/// behind a guess each line says so. The one error is out of memory.
 pub fn push_stack(
     alloc: Global,
     text: &mut String,

@@ -201,7 +201,7 @@ fn read_parts<'a, P: ProcessMemory>(
 
 /// The stack of a thread that stands at a state, and what follows that by a guess, unless `strict`. `code_bits` are
 /// those of an address in a signed return address. What is right is the answer, where the tables of the files ascend,
-/// want of memory aside.
+/// out of memory aside.
 pub fn stack_parts<'a, P: ProcessMemory>(
     alloc: Global,
     process: &mut P,

@@ -208,7 +208,7 @@ fn end_value(
 /// `limit`; `end`, how it ends; `guess`, by what its newest frame was guessed, or null. `files` are the paths by which
 /// frames name files.
 ///
-/// The keys of an object stand in the order of their bytes. The one error is want of memory.
+/// The keys of an object stand in the order of their bytes. The one error is out of memory.
 pub fn stack_value(
     alloc: Global,
     files: &[Name],

@@ -17,6 +17,7 @@ capped n = count_after 0 n
 abbrev pub width_at : List Frame → ℕ → ℕ
 width_at frames at = step_len ends_part (drop at (calls frames))
 
+-- the Python frames that a step from a place takes
 abbrev pub taken_at : List Frame → ℕ → List Call
 taken_at frames at = take (width_at frames at) (drop at (calls frames))
 

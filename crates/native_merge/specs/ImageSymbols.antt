@@ -17,6 +17,7 @@ pub record FilesMapped : Type 0 where
   pub entries : List MapsEntry
   pub images : Pushed
 
+-- the entries of a process's maps with the images of its files
 abbrev pub files_mapped : List MapsEntry → Pushed → FilesMapped
 files_mapped entries images = record { entries = entries; images = images }
 

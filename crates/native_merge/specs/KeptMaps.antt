@@ -24,9 +24,11 @@ Kept = map.FinMap file_order MapOrNone
 
 -- ---- which frames are looked up
 
+-- whether a file's name ends with `.c` or `.cpp`
 abbrev pub is_c_file : List ℕ → Bool
 is_c_file name = ends_with nat_eq name (codes ".c") || ends_with nat_eq name (codes ".cpp")
 
+-- a line above 0; none where it isn't
 abbrev pub above_zero : ℤ → Option ℕ
 above_zero (pos n) = if nat_lt 0 n then Some n else None
 above_zero (negsuc n) = None
@@ -56,6 +58,7 @@ told_of None lineno = None
 told_of (Some None) lineno = None
 told_of (Some (Some marks)) lineno = looked_up lineno marks
 
+-- the frame where the map of its file tells of this line; else as it is
 abbrev pub translated_at : Kept → Frame → Option ℕ → Frame
 translated_at kept frame None = frame
 translated_at kept frame (Some lineno) = placed frame (told_of (map.get kept frame.filename) lineno)

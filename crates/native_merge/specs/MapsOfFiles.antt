@@ -55,6 +55,7 @@ FilesMapOnce = (seen : SourcesSeen) (files : List (List ℕ × List ℕ)) (path 
 
 -- ---- what the reader answers
 
+-- the map of a path, or that its file could not be read
 abbrev pub IsReadMap : SourcesSeen → SourcesSeen → List ℕ → Option (List ℕ) → FileMap → Type 0
 IsReadMap before now path module_name (Known answer) = IsMapOfFile before path module_name answer
 IsReadMap before now path module_name Unread = FailsToRead before now path

@@ -43,6 +43,7 @@ abbrev pub answer_held : HeldSymbols → Option (List NativeFrame) → Result (L
 answer_held held None = Err NoBinary
 answer_held held (Some frames) = if is_listed held.failing held.calls then Err Failed else Ok frames
 
+-- what a call answers for an address, where there is memory
 abbrev pub held_answer : HeldSymbols → ℕ → Result (List NativeFrame) SymbolFault
 held_answer held addr = answer_held held (held_frames held.answers addr)
 
@@ -52,6 +53,7 @@ symbol_faults_with faults NoBinary = faults
 symbol_faults_with faults Failed = count_after faults 1
 symbol_faults_with faults OutOfMemory = faults
 
+-- the count of faults after a result
 abbrev pub symbol_faults : {T : Type 0} → ℕ → Result T SymbolFault → ℕ
 symbol_faults faults (Ok _) = faults
 symbol_faults faults (Err fault) = symbol_faults_with faults fault

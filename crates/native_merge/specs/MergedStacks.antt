@@ -44,6 +44,7 @@ pub record Misfit : Type 0 where
   pub steps : ℕ
   pub frames : ℕ
 
+-- frames that don't fit, with how far the steps came and how many there are
 abbrev pub misfit : ℕ → ℕ → Misfit
 misfit c n = record { steps = c; frames = n }
 
@@ -59,6 +60,7 @@ module _ {C N : Type 0} (is_marked : C → Bool) (fs : List C) where
   interleaved k (Step ∷ is) = map Python (part is_marked k fs) ++ interleaved (suc k) is
   interleaved k (Shown x ∷ is) = Native x ∷ interleaved k is
 
+  -- the merged frames, where the cursor has come so far
   abbrev pub merged_at : ℕ → List (StackItem N) → Result (List (MergedFrame C N)) Misfit
   merged_at c is = if nat_eq c 0 then Ok (interleaved 0 is ++ map Python fs)
       else (if at_end fs c then Ok (interleaved 0 is) else Err (misfit c (length fs)))

@@ -72,6 +72,7 @@ pub data AreAsked (seen : SymbolsSeen) (python : ℕ → Bool) : HeldFrames → 
   Asked : {held mid after : HeldFrames} {addr : ℕ} {addrs : List ℕ} → IsAsked seen python held addr mid
       → AreAsked seen python mid addrs after → AreAsked seen python held (addr ∷ addrs) after
 
+-- whether an answer is the fault of its call
 abbrev pub is_failed : Answer → Bool
 is_failed (Ok fs) = false
 is_failed (Err NoBinary) = false
@@ -99,6 +100,7 @@ ShowsMerged exists (Ok ms) (Err error) = ⊥
 ShowsMerged exists (Err e) (Ok shown) = ⊥
 ShowsMerged exists (Err e) (Err error) = error ≡ Mismatch (capped e.steps) e.frames
 
+-- an answer with the calls of its frames
 abbrev pub calls_of_answer : Result (Vec Frame Global) MergeError → Result (List Call) MergeError
 calls_of_answer (Ok v) = Ok (calls v.items)
 calls_of_answer (Err e) = Err e
@@ -123,6 +125,7 @@ pub record AllTold (seen : SymbolsSeen) (python : ℕ → Bool) (addrs : List �
   pub told : AllZip (λ addr answer. IsToldAnswer seen addr (has_lines python addr) answer) addrs answers
   pub known : AreKnown seen (has_lines python) after
 
+-- where what a cache holds is as it is told, so are all answers, and what it holds after them
 abbrev pub StayTold : SymbolsSeen → (ℕ → Bool) → Type 0
 StayTold seen python = (held : HeldFrames) (addrs : List ℕ) (answers : List Answer) (after : HeldFrames)
     → AreAnswered seen python held addrs answers after → AreKnown seen (has_lines python) held

@@ -39,9 +39,11 @@ is_thread_start function module_name =
     && holds_piece (codes "/libc") module_name)
     || (bytes_eq function (codes "start_thread") && holds_piece (codes "/libpthread") module_name)
 
+-- whether a function is left out: one that passes a call on, or one in which a process or thread begins
 abbrev pub is_dropped_function : List ℕ → List ℕ → Bool
 is_dropped_function function module_name = is_call_glue function || is_thread_start function module_name
 
+-- the same by a function's name, where it is known
 abbrev pub is_dropped_by : Option (List ℕ) → List ℕ → Bool
 is_dropped_by None module_name = false
 is_dropped_by (Some function) module_name = is_dropped_function (encode_utf8_all function) (encode_utf8_all module_name)
@@ -77,6 +79,7 @@ abbrev pub file_of_native : (List ℕ → Bool) → NativeFrame → Option (List
 file_of_native exists f None = f.«module»
 file_of_native exists f (Some function) = source_shown exists f.«module» f.filename
 
+-- the line of a native frame; 0 where its function or its line is not known
 abbrev pub line_of_native : NativeFrame → Option (List ℕ) → ℤ
 line_of_native f None = pos 0
 line_of_native f (Some function) = line_shown f.line
@@ -112,9 +115,11 @@ ShowsFrame exists (Native (OfFault addr)) call = call ≡ fault_call addr
 
 -- ---- what an answer adds
 
+-- a native frame, unless it is left out
 abbrev pub items_shown : NativeFrame → List (StackItem NativeItem)
 items_shown f = if is_dropped f then [] else Shown (OfFrame f) ∷ []
 
+-- what a frame of Python's own native code adds, by its kind: a step, itself, or nothing
 abbrev pub judged : NativeFrame → FunctionKind → List (StackItem NativeItem)
 judged f IsStep = Step ∷ []
 judged f IsNative = items_shown f

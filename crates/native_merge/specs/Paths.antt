@@ -8,9 +8,11 @@ use Rattle.std.specs.List.{after_last, suffix_len}
 abbrev pub up_to_last : (ℕ → Bool) → List ℕ → List ℕ
 up_to_last is text = take (length text - suffix_len (λ c. not (is c)) text) text
 
+-- whether a character is `/`
 abbrev pub is_separator : ℕ → Bool
 is_separator c = c == 47
 
+-- whether a character is `.`
 abbrev pub is_point : ℕ → Bool
 is_point c = c == 46
 
@@ -70,6 +72,7 @@ abbrev pub is_called : List ℕ → List ℕ → Bool
 is_called path name = nat_le (length name) (length path)
     && (bytes_eq (drop (length path - length name) path) name && is_folder (take (length path - length name) path))
 
+-- a path, where it is called by this name
 abbrev pub called : List ℕ → List ℕ → Option (List ℕ)
 called name path = if is_called path name then Some path else None
 
@@ -78,6 +81,7 @@ abbrev pub renamed_by : List ℕ → List ℕ → Option (List ℕ) → Option (
 renamed_by c_path name None = None
 renamed_by c_path name (Some extension) = called name (with_extension c_path extension)
 
+-- the C file's path with the extension of a name, where it is called by that name then
 abbrev pub renamed : List ℕ → List ℕ → Option (List ℕ)
 renamed c_path name = renamed_by c_path name (extension_in (last_part name))
 

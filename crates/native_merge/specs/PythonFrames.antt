@@ -13,6 +13,7 @@ is_marked f = f.is_entry || f.is_shim_entry
 abbrev pub ends_part : Call → Bool
 ends_part c = c.is_entry || c.is_shim_entry
 
+-- the variables as a list, where there are some
 abbrev pub locals_listed : Option (Vec LocalVariable Global) → Option (List LocalVariable)
 locals_listed o = option_map (λ (v : Vec LocalVariable Global). v.items) o
 

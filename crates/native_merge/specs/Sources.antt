@@ -47,6 +47,7 @@ abbrev pub source_or : Bool → Option (List ℕ) → Result (List ℕ) SourceFa
 source_or fails None = Err Missing
 source_or fails (Some bytes) = if fails then Err Failed else Ok bytes
 
+-- what a call of `contents` answers for a path, where there is memory
 abbrev pub source_answer : HeldSources → List ℕ → Result (List ℕ) SourceFault
 source_answer held path = source_or (is_listed held.failing held.calls) (held_bytes held.files path)
 
@@ -56,6 +57,7 @@ faults_with faults Missing = faults
 faults_with faults Failed = count_after faults 1
 faults_with faults OutOfMemory = faults
 
+-- the count of faults after a result
 abbrev pub source_faults : {T : Type 0} → ℕ → Result T SourceFault → ℕ
 source_faults faults (Ok _) = faults
 source_faults faults (Err fault) = faults_with faults fault

@@ -12,6 +12,7 @@ use Rattle.native_merge.specs.Symbols.{SymbolsSeen, IsAsTold}
 abbrev pub Answer : Type 0
 Answer = Result (List NativeFrame) SymbolFault
 
+-- an answer with its frames as a list
 abbrev pub answer_listed : Result (Vec NativeFrame Global) SymbolFault → Answer
 answer_listed (Ok v) = Ok v.items
 answer_listed (Err e) = Err e
@@ -33,9 +34,11 @@ abbrev pub IsHeldAnswer : NativeFrame → Answer → Type 0
 IsHeldAnswer f (Ok fs) = fs ≡ f ∷ []
 IsHeldAnswer f (Err e) = e ≡ OutOfMemory
 
+-- one frame as the whole answer
 abbrev pub alone : NativeFrame → List NativeFrame
 alone f = f ∷ []
 
+-- the frames as a list, where there are some
 abbrev pub frames_of : Option (Vec NativeFrame Global) → Option (List NativeFrame)
 frames_of o = option_map (λ (v : Vec NativeFrame Global). v.items) o
 

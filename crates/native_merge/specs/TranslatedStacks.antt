@@ -34,10 +34,12 @@ TranslatesAnswer seen kept (Ok frames) now new (Err error) = ⊥
 TranslatesAnswer seen kept (Err e) now new (Ok shown) = ⊥
 TranslatesAnswer seen kept (Err e) now new (Err error) = (error ≡ e) × (new ≡ kept)
 
+-- an answer with its frames as a list
 abbrev pub frames_of_answer : Result (Vec Frame Global) MergeError → Result (List Frame) MergeError
 frames_of_answer (Ok v) = Ok v.items
 frames_of_answer (Err e) = Err e
 
+-- an answer with the calls of its frames
 abbrev pub calls_in : Result (List Frame) MergeError → Result (List Call) MergeError
 calls_in (Ok frames) = Ok (calls frames)
 calls_in (Err e) = Err e

@@ -69,7 +69,7 @@ fn beside(alloc: Global, filename: &str, modulename: &str) -> Result<Option<Stri
 ///
 /// It is the file name itself where that exists; else the part behind its last `/` in the folder of `modulename`,
 /// which is all up to its last `/`, where that exists; else none. No file is called by nothing, `.` or `..`, and a
-/// module of the name `` or `/` has no folder. The one error is want of memory. The search is py-spy's.
+/// module of the name `` or `/` has no folder. The one error is out of memory. The search is py-spy's.
 pub fn resolve_filename<F: Sources>(
     alloc: Global,
     sources: &mut F,

@@ -139,7 +139,7 @@ fn find_read<'r, 'a>(read: &'r [ReadImage<'a>], path: &[u8]) -> Option<&'r ReadI
 }
 
 /// What covers a place in the file under a path; none exactly where no image stands under the path, or it is no ELF
-/// file that is accepted. The file is read where it wasn't yet, and then kept. The one error is want of memory.
+/// file that is accepted. The file is read where it wasn't yet, and then kept. The one error is out of memory.
 pub(crate) fn covered_under<'a>(
     alloc: Global,
     read: &mut Vec<ReadImage<'a>>,

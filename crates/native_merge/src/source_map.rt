@@ -188,7 +188,7 @@ impl SourceMap {
     ///
     /// None where the path doesn't exist, where it could not be read, and where its bytes aren't UTF-8 or have
     /// 2^32 - 2 lines or more. That a path could not be read raises the sources' count of faults. The one error is
-    /// want of memory.
+    /// out of memory.
     pub fn new<F: Sources>(
         alloc: Global,
         sources: &mut F,
@@ -214,7 +214,7 @@ impl SourceMap {
     /// `cpp_filename` with the name's extension, where that path is the name or ends with `/` and the name, and
     /// exists; else what `resolve_filename` gives with the module; else the name.
     ///
-    /// `TooLong` exactly where there are 2^32 - 2 lines or more. Else the one error is want of memory.
+    /// `TooLong` exactly where there are 2^32 - 2 lines or more. Else the one error is out of memory.
     pub fn from_contents<F: Sources>(
         alloc: Global,
         sources: &mut F,

@@ -131,7 +131,7 @@ impl SourceMaps {
     /// or that there is none. So it is made once for a file, whatever module later frames have. For a file that could
     /// not be read nothing is kept: the frame stays, and a later one asks again.
     ///
-    /// The one error is want of memory, which comes only for a frame that is looked up. It leaves the frame as it
+    /// The one error is out of memory, which comes only for a frame that is looked up. It leaves the frame as it
     /// was, and the file's map may have been kept.
     pub fn translate<F: Sources>(
         &mut self,

@@ -9,6 +9,7 @@ use Rattle.native_pairs.specs.declared.item.Item.TheVariants.{Python, Native, No
 abbrev pub pythons : (from count : ℕ) → List Item
 pythons from count = map (λ n. Python n) (range_with_len from count)
 
+-- so many native frames, from a number on
 abbrev pub natives : (from count : ℕ) → List Item
 natives from count = map (λ n. Native n) (range_with_len from count)
 
@@ -22,6 +23,7 @@ size_if true (n ∷ runs) = n
 size_if true [] = 0
 size_if false runs = 0
 
+-- which runs are left behind a native frame: all but the next one, where it has that
 abbrev pub rest_if : Bool → List ℕ → List ℕ
 rest_if true (n ∷ runs) = runs
 rest_if true [] = []

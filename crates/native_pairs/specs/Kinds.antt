@@ -11,6 +11,7 @@ use Rattle.native_pairs.specs.declared.kind.FunctionKind.TheVariants.{Step, Nati
 abbrev pub is_gap : ℕ → Bool
 is_gap c = c == 95 || c == 46
 
+-- whether a character is one of a piece
 abbrev pub is_inner : ℕ → Bool
 is_inner c = not (is_gap c)
 
@@ -40,6 +41,7 @@ is_shown_alone piece = bytes_eq piece (codes "time") || bytes_eq piece (codes "s
     || bytes_eq piece (codes "stringio") || bytes_eq piece (codes "sre") || bytes_eq piece (codes "PyGilState")
     || bytes_eq piece (codes "PyThread") || bytes_eq piece (codes "lock")
 
+-- what a frame is, by the first piece of its function's name alone
 abbrev pub kind_by_first : List ℕ → FunctionKind
 kind_by_first piece = if is_shown_alone piece then Native else LeftOut
 
@@ -53,10 +55,12 @@ abbrev pub head_of : List (List ℕ) → List ℕ
 head_of [] = []
 head_of (p ∷ ps) = p
 
+-- all of some pieces but the first
 abbrev pub tail_of : List (List ℕ) → List (List ℕ)
 tail_of [] = []
 tail_of (p ∷ ps) = ps
 
+-- what a frame is, by the pieces of its function's name
 abbrev pub kind_by_pieces : List (List ℕ) → FunctionKind
 kind_by_pieces ps = kind_by_two (head_of ps) (head_of (tail_of ps))
 
@@ -67,6 +71,7 @@ function_kind (Some name) = kind_by_pieces (pieces name)
 
 -- ---- which frames are hidden
 
+-- whether a frame is shown as a native one
 abbrev pub is_native : FunctionKind → Bool
 is_native Native = true
 is_native other = false
@@ -77,6 +82,7 @@ is_call_glue name = bytes_eq name (codes "__Pyx_PyFunction_FastCallDict")
     || bytes_eq name (codes "__Pyx_PyObject_CallOneArg") || bytes_eq name (codes "__Pyx_PyObject_Call")
     || bytes_eq name (codes "__pyx_FusedFunction_call")
 
+-- whether a function only hands a call on; not so where its name is not known
 abbrev pub hands_on : Option (List ℕ) → Bool
 hands_on None = false
 hands_on (Some name) = is_call_glue name
@@ -88,11 +94,14 @@ is_hidden is_own name = hands_on name || (is_own && not (is_native (function_kin
 
 -- ---- the first piece, by what stands in front of it and behind it
 
+-- a text without the gaps in front
 abbrev pub behind_gap : List ℕ → List ℕ
 behind_gap text = drop (prefix_len is_gap text) text
 
+-- the first piece of a text; empty where there is none
 abbrev pub first_piece : List ℕ → List ℕ
 first_piece text = take (prefix_len is_inner (behind_gap text)) (behind_gap text)
 
+-- what stands behind the first piece of a text
 abbrev pub behind_first : List ℕ → List ℕ
 behind_first text = drop (prefix_len is_inner (behind_gap text)) (behind_gap text)

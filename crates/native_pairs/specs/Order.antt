@@ -11,6 +11,7 @@ without_first [] = []
 without_first (true ∷ others) = false ∷ others
 without_first (false ∷ others) = false ∷ without_first others
 
+-- how many native frames are calls of the interpreter's loop
 abbrev pub calls_in : List Bool → ℕ
 calls_in evals = count_by (λ e. e) evals
 

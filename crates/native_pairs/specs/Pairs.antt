@@ -19,6 +19,7 @@ lies_in _ _ = false
 abbrev pub runs_all : List Bool → ℕ
 runs_all takes = count_by (λ t. t) takes
 
+-- how many of the first so many native frames have a run
 abbrev pub runs_before : List Bool → ℕ → ℕ
 runs_before takes k = runs_all (take k takes)
 
@@ -32,5 +33,6 @@ pub record IsPaired (lies : ℕ → ℕ → Bool) (frames : ℕ) (takes : List B
 abbrev pub lies_by : List Part → List (Option ℕ) → ℕ → ℕ → Bool
 lies_by parts borders k run = lies_in (slice_get parts k) (slice_get borders run)
 
+-- which native frames have a run, by the borders of the runs
 abbrev pub IsPairedByAddress : List Part → List (Option ℕ) → List Bool → Type 0
 IsPairedByAddress parts borders takes = IsPaired (lies_by parts borders) (length parts) takes

@@ -52,7 +52,7 @@ fn pairs_of(alloc: Global, parts: &[Part], borders: &[Option<u64>]) -> Result<Ve
 /// borders, from the newest on, whether each native frame has one. It has the next run where that run's border lies in
 /// its part of the stack; runs that are left over have no native frame.
 ///
-/// There is one answer alone. The one error is want of memory.
+/// There is one answer alone. The one error is out of memory.
 pub fn pair_by_address(
     alloc: Global,
     parts: &[Part],

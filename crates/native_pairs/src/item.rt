@@ -109,7 +109,7 @@ fn merge(alloc: Global, takes: &[bool], runs: &[usize]) -> Result<Vec<Item>, All
 /// a run (`pair_by_address`, `pair_by_order`), and how many Python frames each run has: the Python frames of a run
 /// stand in front of its native frame. Those of runs that no native frame has stand last, behind a mark.
 ///
-/// Each frame is there once, and in its order. The one error is want of memory.
+/// Each frame is there once, and in its order. The one error is out of memory.
 pub fn merged_items(alloc: Global, takes: &[bool], runs: &[usize]) -> Result<Vec<Item>, AllocError>
     ensures merged { IfOk result (λ items. items.items ≡ merged_items takes.now runs.now) }
     ensures pythons { IfOk result (λ items. pythons_in items.items ≡ numbers (sum runs.now)) }
@@ -132,7 +132,7 @@ fn native_items(alloc: Global, frames: usize) -> Result<Vec<Item>, AllocError>
 /// The native frames of a thread, and then its Python frames behind a mark: what is shown where nothing tells which
 /// native frame has which run.
 ///
-/// Each frame is there once, and in its order. The one error is want of memory.
+/// Each frame is there once, and in its order. The one error is out of memory.
 pub fn apart_items(alloc: Global, frames: usize, runs: &[usize]) -> Result<Vec<Item>, AllocError>
     ensures apart { IfOk result (λ items. items.items ≡ apart_items frames runs.now) }
     ensures pythons { IfOk result (λ items. pythons_in items.items ≡ numbers (sum runs.now)) }

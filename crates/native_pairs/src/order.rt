@@ -9,7 +9,7 @@ use std::alloc::{AllocError, Global};
 /// thread, from the newest on, whether each is such a call, and of how many runs there are. The k-th call has the k-th
 /// run. Where there is one call more the newest has none. Else there is no answer.
 ///
-/// The one error is want of memory.
+/// The one error is out of memory.
 pub fn pair_by_order(
     alloc: Global,
     evals: &[bool],

@@ -7,6 +7,7 @@ use Rattle.image_memory.specs.Notes.{is_of_kind, status_kind}
 abbrev pub is_status : Noted → Bool
 is_status note = is_of_kind status_kind note && nat_le 112 (length note.desc)
 
+-- a note, unless it is left out
 abbrev pub kept_unless : (is_left_out : Bool) → Noted → List Noted
 kept_unless true note = []
 kept_unless false note = note ∷ []
@@ -16,5 +17,6 @@ unfoldable pub notes_behind : (is_met : Bool) → List Noted → List Noted
 notes_behind is_met [] = []
 notes_behind is_met (n ∷ ns) = kept_unless (is_met && is_status n) n ++ notes_behind (is_met || is_status n) ns
 
+-- the notes of a core without the status records of other threads than the first
 abbrev pub notes_of_first : List Noted → List Noted
 notes_of_first notes = notes_behind false notes

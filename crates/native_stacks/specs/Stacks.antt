@@ -34,8 +34,10 @@ MappedAscend core notes images =
 
 -- ---- as they are read
 
+-- a thread's registers in plain terms, where there are some
 abbrev pub known_shown_if : Option ThreadRegisters → Option ThreadShown
 known_shown_if known = option_map known_shown known
 
+-- the native stacks of a process in plain terms
 abbrev pub stacks_shown : NativeStacks → StacksShown
 stacks_shown s = record { files = s.files.items; threads = map thread_shown s.threads.items }

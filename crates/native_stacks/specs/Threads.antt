@@ -31,6 +31,7 @@ abbrev pub state_by : Option Machine → List ℕ → Option (Machine × State)
 state_by None status = None
 state_by (Some machine) status = option_map (λ (s : State). (machine, s)) (thread_state machine status)
 
+-- the stack of a thread and the one behind a guess; none where its registers are not told
 abbrev pub HasStacks : List Mapping → (code_bits : ℕ) → Memory → (strict : Bool) → (left : ℕ) → Option (Machine × State)
     → Option StackShown → Option StackShown → Type 0
 HasStacks mappings code_bits m strict left None stack guessed = (stack ≡ None) × (guessed ≡ None)
@@ -86,14 +87,17 @@ IsThreadOf machine mappings code_bits m strict is_first left status None thread 
 IsThreadOf machine mappings code_bits m strict is_first left status (Some known) thread =
     (t : NativeShown) × (thread ≡ Some t) × IsThread machine mappings code_bits m strict is_first left known status t
 
+-- whether the next thread is the first one
 abbrev pub first_after : (is_first : Bool) → Option NativeShown → Bool
 first_after is_first None = is_first
 first_after is_first (Some t) = false
 
+-- how many frames are left to the process behind a thread, where there is one
 abbrev pub left_after : (left : ℕ) → Option NativeShown → ℕ
 left_after left None = left
 left_after left (Some t) = left_behind left t
 
+-- a thread in plain terms
 abbrev pub thread_shown : NativeThread → NativeShown
 thread_shown t = record {
   system_id = t.system_id;
@@ -103,5 +107,6 @@ thread_shown t = record {
   guessed = stack_shown_if t.guessed;
 }
 
+-- a thread in plain terms, where there is one
 abbrev pub thread_shown_if : Option NativeThread → Option NativeShown
 thread_shown_if t = option_map thread_shown t

@@ -8,10 +8,12 @@ use Rattle.thread_registers.specs.Trees.{whose_tree}
 use Rattle.native_stacks.specs.Stacks.{StacksShown}
 use Rattle.native_stacks.specs.Threads.{NativeShown}
 
+-- a stack; null where there is none
 abbrev pub part_tree : List (List ℕ) → (limit : ℕ) → Option StackShown → Data
 part_tree files limit (Some s) = stack_tree files limit s
 part_tree files limit None = null
 
+-- a thread: whether it got the signal, whose it is, its stacks, and the system's id
 abbrev pub thread_tree : List (List ℕ) → (limit : ℕ) → NativeShown → Data
 thread_tree files limit t = object (
     member (codes "crashed") (boolean t.is_crashed) (
@@ -20,8 +22,10 @@ thread_tree files limit t = object (
     member (codes "stack") (part_tree files limit t.stack) (
     member (codes "system_id") (number (unsigned t.system_id)) no_members)))))
 
+-- some threads, as an array
 abbrev pub threads_tree : List (List ℕ) → (limit : ℕ) → List NativeShown → Data
 threads_tree files limit threads = array (items_of (map (λ t. thread_tree files limit t) threads))
 
+-- the native stacks of a process, as an array of its threads
 abbrev pub stacks_tree : (limit : ℕ) → StacksShown → Data
 stacks_tree limit s = threads_tree s.files limit s.threads

@@ -47,7 +47,7 @@ fn are_both(one: bool, other: bool) -> bool
 }
 
 /// Some notes of a core, without the status records behind the first one: that is of the thread that got the signal,
-/// where one did. The one error is want of memory.
+/// where one did. The one error is out of memory.
 pub fn notes_of_first<'a>(alloc: Global, notes: &[Note<'a>]) -> Result<Vec<Note<'a>>, AllocError>
     ensures { IfOk result (λ kept. map noted kept.items ≡ notes_of_first (map noted notes.now)) }
 {

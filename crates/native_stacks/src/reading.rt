@@ -273,7 +273,7 @@ fn read_stacks<P: ProcessMemory>(
 /// it (`covering_symbols`). A thread has at most 2^20 frames, and behind the 2^22nd of the process each thread its
 /// newest one. Memory is read at most 8549 times for a frame.
 ///
-/// What is right is the answer, where the tables of the files that were mapped ascend. The one error is want of memory,
+/// What is right is the answer, where the tables of the files that were mapped ascend. The one error is out of memory,
 /// as which a file table counts that is none, which those of a core are not.
 pub fn read_native_stacks<P: ProcessMemory>(
     alloc: Global,

@@ -54,7 +54,7 @@ fn push_part(
 }
 
 /// Appends the line of a thread: whose it is, the id that the system gave it, and whether it got the signal. The one
-/// error is want of memory.
+/// error is out of memory.
 pub fn push_thread_head(text: &mut String, thread: &NativeThread) -> Result<(), AllocError>
     ensures { OnOk result (string_bytes text.new ≡ string_bytes text.old ++ thread_head (thread_shown thread.now)) }
 {
@@ -64,7 +64,7 @@ pub fn push_thread_head(text: &mut String, thread: &NativeThread) -> Result<(), 
 
 /// Appends the lines of a thread's native stack: whose it is, and the lines of its stack (`push_stack`), of which the
 /// first and the last `limit` frames are shown; and then those that follow by a guess, each with a mark. `files` are
-/// the paths by which frames name files. The one error is want of memory.
+/// the paths by which frames name files. The one error is out of memory.
 pub fn push_thread(
     alloc: Global,
     text: &mut String,
@@ -99,7 +99,7 @@ fn push_threads(
 
 /// Appends the lines of native stacks: for each thread whose it is, and the lines of its stack (`push_stack`), of which
 /// the first and the last `limit` frames are shown; and then those that follow by a guess, each with a mark. The one
-/// error is want of memory.
+/// error is out of memory.
 pub fn push_native_stacks(
     alloc: Global,
     text: &mut String,

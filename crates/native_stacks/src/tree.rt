@@ -91,7 +91,7 @@ fn threads_value(
 /// `python`: whose it is, as `thread_registers::threads_value` has it; `stack`: its stack (`stack_value`), or null
 /// where its record does not tell where it stands; `guessed`: what follows that by a guess, or null; `system_id`.
 ///
-/// The keys of an object stand in the order of their bytes. The one error is want of memory.
+/// The keys of an object stand in the order of their bytes. The one error is out of memory.
 pub fn native_value(alloc: Global, limit: usize, stacks: &NativeStacks) -> Result<Value, AllocError>
     ensures value { IfOk result (λ value. view value ≡ stacks_tree limit (stacks_shown stacks.now)) }
     ensures no_float { has_float (stacks_tree limit (stacks_shown stacks.now)) ≡ false }

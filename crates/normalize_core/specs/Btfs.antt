@@ -7,6 +7,7 @@ use Rattle.normalize_core.specs.declared.btf.btf_header.{btf_header}
 abbrev pub strings_start : btf_header → ℕ
 strings_start header = header.hdr_len + header.str_off
 
+-- where the strings of a BTF section end, in bytes (Linux, Documentation/bpf/btf.rst)
 abbrev pub strings_end : btf_header → ℕ
 strings_end header = strings_start header + header.str_len
 

@@ -16,6 +16,7 @@ pub record FileHasId (bytes : List ℕ) (id : Option (List ℕ)) : Type 0 where
   pub says : FileHoldsBuildId bytes found
   pub is : id ≡ id_in found
 
+-- an image has this build id; none where there is no image
 abbrev pub ImageHasId : Option Mapped → Option (List ℕ) → Type 0
 ImageHasId None id = id ≡ None
 ImageHasId (Some image) id = FileHasId (shown_bytes image) id

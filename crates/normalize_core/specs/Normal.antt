@@ -24,6 +24,7 @@ pub record Asked : Type 0 where
   pub build_ids : Bool
   pub map_files : Bool
 
+-- what normalizing is asked for
 abbrev pub normalizing_by : Bool → List MapsEntry → Pushed → Bool → Asked
 normalizing_by build_ids entries images map_files = record {
   entries = entries;
@@ -53,6 +54,7 @@ abbrev pub meta_number_at : Asked → List ℕ → ℕ → ℕ
 meta_number_at asked ascending addr =
     position_or_len (meets asked.entries asked.map_files addr) (first_addrs asked ascending)
 
+-- the output of an address: its place in the file, and the number of its meta
 abbrev pub output_at : Asked → List ℕ → ℕ → ℕ × ℕ
 output_at asked ascending addr = (normal_value_at asked.entries addr, meta_number_at asked ascending addr)
 
@@ -70,6 +72,7 @@ pub record IsNormal (asked : Asked) (addrs : List ℕ) (normal : Normal) : Type 
   pub outputs : normal.outputs ≡ map (output_at asked ascending) addrs
   pub metas : AllZip (IsMetaAt asked) (first_addrs asked ascending) normal.metas
 
+-- whether there are no maps
 abbrev pub is_empty : List MapsEntry → Bool
 is_empty [] = true
 is_empty (entry ∷ entries) = false

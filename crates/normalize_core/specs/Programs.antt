@@ -8,6 +8,7 @@ use Rattle.normalize_core.specs.Tags.{tag_of}
 abbrev pub prefix : List ℕ
 prefix = codes "bpf_prog_"
 
+-- whether a byte is `_`
 abbrev pub is_underscore : ℕ → Bool
 is_underscore byte = byte == 95
 

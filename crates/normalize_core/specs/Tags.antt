@@ -28,6 +28,7 @@ first_value byte = if byte == 43 then Some 0 else hex_value byte
 abbrev pub pair_value : ℕ → ℕ → Option ℕ
 pair_value first second = joined_digits (first_value first) (hex_value second)
 
+-- a byte before others; none where there is no byte
 abbrev pub before : Option ℕ → Option (List ℕ) → Option (List ℕ)
 before None bytes = None
 before (Some byte) None = None

@@ -26,6 +26,7 @@ Target = Result (List ℕ) Reason
 abbrev pub path_in : Bool → EntryPath → List ℕ
 path_in map_files path = if map_files then path.maps_file else path.symbolic_path
 
+-- the file of a map's name: a path; what is no file is not supported
 abbrev pub named_target : Bool → Option PathName → Target
 named_target map_files None = Err MissingComponent
 named_target map_files (Some (Component text)) = Err Unsupported
@@ -36,9 +37,11 @@ abbrev pub target_in : Bool → Option MapsEntry → Target
 target_in map_files None = Err Unmapped
 target_in map_files (Some entry) = named_target map_files entry.path_name
 
+-- the file of the map that covers an address
 abbrev pub target_at : List MapsEntry → Bool → ℕ → Target
 target_at entries map_files addr = target_in map_files (covering entries addr)
 
+-- an address's place in the file of its map; the address itself where the map has no file
 abbrev pub named_value : ℕ → MapsEntry → Option PathName → ℕ
 named_value addr entry None = addr
 named_value addr entry (Some (Component text)) = addr
@@ -49,6 +52,7 @@ abbrev pub value_in : ℕ → Option MapsEntry → ℕ
 value_in addr None = addr
 value_in addr (Some entry) = named_value addr entry entry.path_name
 
+-- an address's place in the file of the map that covers it
 abbrev pub normal_value_at : List MapsEntry → ℕ → ℕ
 normal_value_at entries addr = value_in addr (covering entries addr)
 
@@ -56,6 +60,7 @@ normal_value_at entries addr = value_in addr (covering entries addr)
 abbrev pub overflows : List MapsEntry → ℕ → Bool
 overflows entries addr = not (nat_lt (normal_value_at entries addr) (2 ^ 64))
 
+-- whether two reasons for no file are the same
 abbrev pub same_reason : Reason → Reason → Bool
 same_reason Unmapped Unmapped = true
 same_reason Unmapped MissingComponent = false

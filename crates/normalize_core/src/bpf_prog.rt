@@ -30,7 +30,7 @@ impl Model for BpfProg {
 
 impl BpfProg {
     /// The program of a name, where that is `bpf_prog_` and a tag up to the next `_` or the end; none for any
-    /// other text. The one error is want of memory.
+    /// other text. The one error is out of memory.
     pub fn parse(alloc: Global, s: &str, addr: u64) -> Result<Option<BpfProg>, AllocError>
         ensures { IfOk result (λ prog. prog ≡ prog_of s.now addr) }
     {

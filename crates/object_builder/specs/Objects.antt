@@ -13,6 +13,7 @@ pub data Value : Type 0 where
   U8 : (n : ℕ) → Value
   Bytes : (bytes : List ℕ) → Value
 
+-- how many bytes a value takes
 abbrev pub len_of : Value → ℕ
 len_of (U64 n) = 8
 len_of (U32 n) = 4
@@ -20,6 +21,7 @@ len_of (U16 n) = 2
 len_of (U8 n) = 1
 len_of (Bytes bytes) = length bytes
 
+-- the bytes of a value, the lowest byte of a number first
 unfoldable pub bytes_of : Value → List ℕ
 bytes_of (U64 n) = to_le_bytes w64 n
 bytes_of (U32 n) = to_le_bytes w32 n
@@ -41,6 +43,7 @@ unfoldable pub object : ℕ → List Write → List ℕ
 object n [] = replicate n 0
 object n (w ∷ ws) = put_at w.at (bytes_of w.value) (object n ws)
 
+-- where a write's bytes stand in its object, and how many there are
 abbrev pub write_place : Write → Place
 write_place w = (w.at, len_of w.value)
 

@@ -10,6 +10,7 @@ use Rattle.py_fields.specs.declared.layout.Strings.TheVariants.{State, Bytes}
 abbrev pub rounded : ℕ → ℕ
 rounded n = (n + 15) / 16 * 16
 
+-- whether all characters are below a limit
 abbrev pub all_under : ℕ → List ℕ → Bool
 all_under limit cs = list_all (λ c. nat_lt c limit) cs
 
@@ -31,5 +32,6 @@ abbrev pub characters_len : Layout → List ℕ → ℕ
 characters_len l cs =
     if is_short_headed l.strings cs then length (encode_utf8_all cs) else least_width cs * length cs
 
+-- the bytes of a text's object: its record, or up to the end of its characters
 unfoldable pub text_len : Layout → List ℕ → ℕ
 text_len l cs = max (max l.string.size l.object.size) (characters_start l cs + characters_len l cs)

@@ -37,6 +37,7 @@ least_kind cs =
     if all_under 0x80 cs then Utf8 else
     (if all_under 0x100 cs then Latin1 else (if all_under 0x1_0000 cs then Utf16 else Utf32))
 
+-- how a text's characters are coded: the least kind where texts have a state, else UTF-8
 abbrev pub kind_for : Strings → List ℕ → TextKind
 kind_for State cs = least_kind cs
 kind_for PlainBytes cs = Utf8
@@ -77,6 +78,7 @@ state_of s Latin1 = bit_or (2 ^ s.kind_shift) (2 ^ s.compact_bit)
 state_of s Utf16 = bit_or (2 ^ (s.kind_shift + 1)) (2 ^ s.compact_bit)
 state_of s Utf32 = bit_or (2 ^ (s.kind_shift + 2)) (2 ^ s.compact_bit)
 
+-- the bits of a text's state; 0 where texts have none
 abbrev pub state_by : Option StateAt → TextKind → ℕ
 state_by None k = 0
 state_by (Some s) k = state_of s k
@@ -93,6 +95,7 @@ abbrev pub klass_write : Layout → Option ℕ → Write
 klass_write l None = record { at = 0; value = Bytes [] }
 klass_write l (Some klass) = record { at = l.object.klass; value = U64 klass }
 
+-- the fields of a text: its length in units of its coding, its state, its characters, and its type
 abbrev pub text_writes : Layout → Option ℕ → TextKind → List ℕ → List Write
 text_writes l klass k cs =
     record { at = l.string.length; value = U64 (units_of k cs) } ∷
@@ -100,6 +103,7 @@ text_writes l klass k cs =
     record { at = start_of l.string k; value = Bytes (coded k cs) } ∷
     klass_write l klass ∷ []
 
+-- the object of a text, with its type where it is a value
 unfoldable pub text_object : Layout → Option ℕ → List ℕ → List ℕ
 text_object l klass cs = object (text_len l cs) (text_writes l klass (kind_for l.strings cs) cs)
 

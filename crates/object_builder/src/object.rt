@@ -67,7 +67,7 @@ pub fn add_object(out: &mut Vec<u8>, size: usize, writes: &[Write]) -> Result<()
     out.resize(start + (size + 15) / 16 * 16, 0)
 }
 
-/// Adds bytes, padded to a multiple of 16. The one error is want of memory.
+/// Adds bytes, padded to a multiple of 16. The one error is out of memory.
 #[tactic(auto, unfolding(crate::specs::Objects::aligned))]
 pub fn add_aligned(out: &mut Vec<u8>, bytes: &[u8]) -> Result<(), AllocError>
     requires { length bytes.now < 2 ^ 48 }

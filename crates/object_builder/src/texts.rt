@@ -44,14 +44,14 @@ fn kind_for(strings: Strings, text: &Text) -> TextKind
     }
 }
 
-/// The characters of a text. The one error is want of memory.
+/// The characters of a text. The one error is out of memory.
 fn characters(alloc: Global, text: &Text) -> Result<Vec<char>, AllocError>
     ensures { IfOk result (λ found. found.items ≡ text.now) }
 {
     text.as_str().chars().collect(alloc)
 }
 
-/// The lowest bytes of the characters' codes. The one error is want of memory.
+/// The lowest bytes of the characters' codes. The one error is out of memory.
 fn code_bytes(alloc: Global, width: usize, text: &Text) -> Result<Vec<u8>, AllocError>
     requires { width ≤ 4 }
     ensures { IfOk result (λ bytes. bytes.items ≡ flat_map (code_bytes width) text.now) }
@@ -65,7 +65,7 @@ fn code_bytes(alloc: Global, width: usize, text: &Text) -> Result<Vec<u8>, Alloc
     Ok(bytes)
 }
 
-/// The bytes of a text in UTF-8. The one error is want of memory.
+/// The bytes of a text in UTF-8. The one error is out of memory.
 fn utf8_bytes(alloc: Global, text: &Text) -> Result<Vec<u8>, AllocError>
     ensures { IfOk result (λ bytes. bytes.items ≡ encode_utf8_all text.now) }
 {
@@ -74,7 +74,7 @@ fn utf8_bytes(alloc: Global, text: &Text) -> Result<Vec<u8>, AllocError>
     Ok(bytes)
 }
 
-/// The bytes of a text in a kind that has all of its characters. The one error is want of memory.
+/// The bytes of a text in a kind that has all of its characters. The one error is out of memory.
 fn coded(alloc: Global, kind: TextKind, text: &Text) -> Result<Vec<u8>, AllocError>
     requires { Suits kind text.now }
     ensures { IfOk result (λ bytes. bytes.items ≡ coded kind text.now) }
@@ -165,7 +165,7 @@ fn klass_write(layout: &Layout, klass: Option<u64>) -> Write<'static>
 
 /// Adds the object of a text: one of a type where its address is given. It is of the least kind that has all
 /// characters of the text, where texts have a state. Where a layout has room for the type, what was added is read as
-/// the text, wherever it stands in memory. The one error is want of memory.
+/// the text, wherever it stands in memory. The one error is out of memory.
 #[tactic(auto, unfolding(crate::specs::Texts::text_object))]
 pub fn add_text(
     alloc: Global,

@@ -111,7 +111,7 @@ determined heap roots xs ys a b =
     (λ q h. (b.exact q).1 ((a.exact q).0 h)) (λ q h. (a.exact q).1 ((b.exact q).0 h)) in
     made_from heap xs a.failures ∙ (ap (made heap) same ∙ sym (made_from heap ys b.failures))
 
--- one answer at most is right, want of memory aside
+-- one answer at most is right, out of memory aside
 pub right_unique : (heap : ℕ → Object) (roots : List ℕ) (result answer : Result (List ReachObject) ReachError) → IsRightReach heap roots result → IsRightReach heap roots answer → answer ≢ Err Lost → IsUnless Lost answer result
 right_unique heap roots (Ok xs) (Ok ys) h g ne = inl (ap (λ os. Ok os) (determined heap roots xs ys h.0 g.0))
 right_unique heap roots (Ok xs) (Err ReachLimit) h g ne = absurd (h.1 g)

@@ -30,16 +30,19 @@ pub record PartsRead : Type 0 where
   pub count : ℕ
   pub place : PartsSpot
 
+-- the items of a list or a tuple: how many, and where they stand
 unfoldable pub item_parts : Layout → Memory → Sequence → ℕ → Found PartsRead
 item_parts l m s a = do
   items ← items_at l m s a
   Ok (record { count = items.count; place = ItemsAt items })
 
+-- the entries of a dict: how many slots, and where they stand
 unfoldable pub slot_parts : Layout → Memory → ℕ → Found PartsRead
 slot_parts l m a = do
   slots ← dict_slots l m a
   Ok (record { count = slots.count; place = SlotsAt slots })
 
+-- the parts of an object that leads to none
 abbrev pub no_parts : PartsRead
 no_parts = record { count = 0; place = Nowhere }
 
@@ -49,6 +52,7 @@ dict_parts Absent l m a = Ok no_parts
 dict_parts General l m a = slot_parts l m a
 dict_parts Compact l m a = slot_parts l m a
 
+-- the parts of an object, by what it contains
 abbrev pub parts_by : Layout → Memory → ℕ → Contents → Found PartsRead
 parts_by l m a Nothing = Ok no_parts
 parts_by l m a Slots = dict_parts l.dicts l m a
@@ -60,6 +64,7 @@ parts_found l m a = do
   class ← type_at l m a
   parts_by l m a (contents_of l.bytes_text class.flags)
 
+-- the addresses that a slot of a dict has: of its key and its value
 abbrev pub slot_words : Slot → List ℕ
 slot_words Empty = []
 slot_words (Entry key value) = key ∷ value ∷ []
@@ -82,6 +87,7 @@ words_of_first part (suc n) = do
   more ← part n
   Ok (words ++ more)
 
+-- a number where the words were found, else a smaller one
 abbrev pub all_or : Found (List ℕ) → ℕ → ℕ → ℕ
 all_or (Ok words) all fewer = all
 all_or (Err f) all fewer = fewer
@@ -98,6 +104,7 @@ pub record Object : Type 0 where
   pub words : List ℕ
   pub failure : Option Fault
 
+-- an object of so many slots, with the addresses that it leads to, or why they can't be read
 abbrev pub object_with : ℕ → Found (List ℕ) → Object
 object_with n (Ok words) = record { slots = n; words = words; failure = None }
 object_with n (Err f) = record { slots = n; words = []; failure = Some f }
@@ -107,6 +114,7 @@ abbrev pub object_of : Memory → PartsRead → Object
 object_of m p =
     object_with (parts_in_front (part_words m p.place) p.count) (words_of_first (part_words m p.place) p.count)
 
+-- an object, by its parts or why they can't be read
 abbrev pub object_by : Memory → Found PartsRead → Object
 object_by m (Err f) = object_with 0 (Err f)
 object_by m (Ok p) = object_of m p

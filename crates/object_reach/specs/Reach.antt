@@ -51,7 +51,7 @@ pub record PassesLimit (heap : ℕ → Object) (roots : List ℕ) : Type 0 where
   pub reached : All (IsReached heap roots) list
   pub passes : (2 ^ 20 < length list) ⊎ (2 ^ 24 < slots_in_all heap list)
 
--- what a search may answer: what is reached where the limit is not passed, and else that it is. Want of memory is free
+-- what a search may answer: what is reached where the limit is not passed, and else that it is. Out of memory is free
 abbrev pub IsRightReach : (ℕ → Object) → List ℕ → Result (List ReachObject) ReachError → Type 0
 IsRightReach heap roots (Ok objects) = IsReach heap roots objects × (PassesLimit heap roots → ⊥)
 IsRightReach heap roots (Err ReachLimit) = PassesLimit heap roots

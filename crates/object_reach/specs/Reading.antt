@@ -23,9 +23,11 @@ spot_of NoPlace = Nowhere
 spot_of (ItemPlace items) = ItemsAt items
 spot_of (SlotPlace cursor) = SlotsAt cursor.slots
 
+-- the parts of an object as they were read
 abbrev pub parts_told : Parts → PartsRead
 parts_told p = record { count = p.count; place = spot_of p.place }
 
+-- a result with the parts of an object
 abbrev pub parts_got : {E : Type 0} → Result Parts E → Result PartsRead E
 parts_got (Ok p) = Ok (parts_told p)
 parts_got (Err e) = Err e
@@ -36,6 +38,7 @@ words_told Nothing = []
 words_told (Item item) = item ∷ []
 words_told (SlotPart slot) = slot_words slot
 
+-- a result with the addresses that a part leads to
 abbrev pub words_read : {E : Type 0} → Result Part E → Result (List ℕ) E
 words_read (Ok part) = Ok (words_told part)
 words_read (Err e) = Err e
@@ -58,7 +61,7 @@ abbrev pub slots_cost : ℕ → Result ObjectRead ReachError → ℕ
 slots_cost room (Ok found) = 2 + 2 * found.slots
 slots_cost room (Err error) = 2 + 2 * room
 
--- an object that is broken by an error that is not want of memory, behind so many slots
+-- an object that is broken by an error that is not out of memory, behind so many slots
 abbrev pub IsBroken : ObjectError → ℕ → Result ObjectRead ReachError → Type 0
 IsBroken error slots (Ok found) =
     (found.slots ≡ slots) × (found.words.items ≡ []) × (found.broken ≡ Some error) × IsSome (object_fault error)

@@ -73,7 +73,7 @@ fn read_words<P: ProcessMemory>(
     })
 }
 
-/// An object that is broken by an error, unless it is want of memory.
+/// An object that is broken by an error, unless it is out of memory.
 fn broken(alloc: Global, error: ObjectError, slots: u64) -> Result<ObjectRead, ReachError>
     ensures { IsBroken error slots result }
 {

@@ -43,7 +43,7 @@ pub record FilesSeen : Type 0 where
 abbrev pub untouched_files : FilesSeen
 untouched_files = record { told = None; failed = []; taken = 0 }
 
--- what the list of failed names gains by a fault: nothing by want of memory
+-- what the list of failed names gains by a fault: nothing by out of memory
 abbrev pub failed_name : List ℕ → FileFault → FailedNames
 failed_name name Failed = (name, Failed) ∷ []
 failed_name name TooLong = (name, TooLong) ∷ []

@@ -52,7 +52,7 @@ impl MemoryFiles {
     }
 }
 
-/// Keeps the name of a file that could not be read, and answers the fault, or want of memory.
+/// Keeps the name of a file that could not be read, and answers the fault, or out of memory.
 #[tactic(auto, using(crate::proofs::Names::failed_name_of_fault))]
 fn note(
     alloc: Global,

@@ -38,7 +38,7 @@ impl Model for MemorySink {
 
 impl MemorySink {
     /// Room for so many bytes, and the numbers of the calls that are to fail, each after so many bytes; the
-    /// first entry of a number counts. The one error is want of memory.
+    /// first entry of a number counts. The one error is out of memory.
     ///
     /// Calls are counted from 0. No call from number 2^64 - 1 on fails by its number.
     pub fn new(alloc: Global, room: u32, failing: Vec<(u64, u64)>) -> Result<MemorySink, AllocError>

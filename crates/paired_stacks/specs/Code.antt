@@ -8,5 +8,6 @@ abbrev pub is_in : Option CodeRange → ℕ → Bool
 is_in (Some range) addr = nat_le range.addr addr && nat_lt (addr - range.addr) range.size
 is_in None addr = false
 
+-- whether an address is in the code of Python's program or of its library
 abbrev pub is_own : OwnCode → ℕ → Bool
 is_own own addr = is_in own.program addr || is_in own.library addr

@@ -18,13 +18,16 @@ use Rattle.paired_stacks.specs.declared.code.OwnCode.{OwnCode}
 abbrev pub code_at : Frame → ℕ
 code_at f = if f.is_exact then f.pc else f.pc - 1
 
+-- the name of a function, where it is known
 abbrev pub name_by : Option Function → Option (List ℕ)
 name_by None = None
 name_by (Some function) = Some function.name
 
+-- the name of a native frame's function, where it is known
 abbrev pub name_of : NativeFrame → Option (List ℕ)
 name_of f = name_by f.function
 
+-- whether a function is the interpreter's loop
 abbrev pub is_loop : FunctionKind → Bool
 is_loop Step = true
 is_loop Native = false
@@ -50,15 +53,19 @@ parts_from own from (f ∷ fs) = part_of own from f ∷ parts_from own f.frame.c
 -- ---- of a thread: the frames of its stack, and then those that follow it by a guess, of which the newest one's stack
 -- pointer is not known
 
+-- the frames of a stack, where there is one
 abbrev pub frames_of : Option StackShown → List NativeFrame
 frames_of None = []
 frames_of (Some s) = s.frames
 
+-- the parts of the stack that a thread's native frames have, from its stack pointer on
 abbrev pub parts_of : OwnCode → (start : Option ℕ) → NativeShown → List Part
 parts_of own start t = parts_from own start (frames_of t.stack) ++ parts_from own None (frames_of t.guessed)
 
+-- which native frames of a thread are calls of the interpreter's loop
 abbrev pub steps_of : OwnCode → NativeShown → List Bool
 steps_of own t = map (is_step own) (frames_of t.stack) ++ map (is_step own) (frames_of t.guessed)
 
+-- which native frames of a thread are hidden among Python's frames
 abbrev pub hidden_of : OwnCode → NativeShown → List Bool
 hidden_of own t = map (is_left_out own) (frames_of t.stack) ++ map (is_left_out own) (frames_of t.guessed)

@@ -14,9 +14,11 @@ use Rattle.py_runs.specs.declared.run_rule.RunEnd.TheVariants.{Each, Entry, Shim
 use Rattle.paired_stacks.specs.declared.laid.Pairing.{Pairing}
 use Rattle.paired_stacks.specs.declared.laid.Pairing.TheVariants.{Address, Order, Apart}
 
+-- how many Python frames a run has
 abbrev pub size_of : Run → ℕ
 size_of r = r.frames
 
+-- the address of the record that CPython keeps in the C function that executes a run, where it is known
 abbrev pub border_of : Run → Option ℕ
 border_of r = r.border
 
@@ -29,6 +31,7 @@ pub record IsApart (natives : ℕ) (frames : List ℕ) (pairing : Pairing) (item
   pub by : pairing ≡ Apart
   pub are : items ≡ apart_items natives frames
 
+-- both in one stack, by which native frames have a run, and how that was found
 pub record IsMerged (told : Pairing) (takes : List Bool) (sizes : List ℕ) (pairing : Pairing) (items : List Item)
     : Type 0 where
   pub by : pairing ≡ told
@@ -39,6 +42,7 @@ abbrev pub IsOrdered : Option (List Bool) → (natives : ℕ) → (sizes frames 
 IsOrdered (Some takes) natives sizes frames pairing items = IsMerged Order takes sizes pairing items
 IsOrdered None natives sizes frames pairing items = IsApart natives frames pairing items
 
+-- by the order of both, or else one below the other
 abbrev pub IsByOrder : (steps : List Bool) → (sizes frames : List ℕ) → Pairing → List Item → Type 0
 IsByOrder steps sizes frames pairing items =
     IsOrdered (ordered steps (length sizes)) (length steps) sizes frames pairing items
@@ -50,6 +54,7 @@ pub record IsByAddress (parts : List Part) (sizes : List ℕ) (runs : List Run) 
   pub paired : IsPairedByAddress parts (map border_of runs) takes
   pub merged : IsMerged Address takes sizes pairing items
 
+-- by the order of both where each frame is a run (up to 3.10), by the addresses of borders from 3.11 on
 abbrev pub IsLaid : RunEnd → List Part → (steps : List Bool) → (sizes : List ℕ) → List Run → (frames : List ℕ) → Pairing
     → List Item → Type 0
 IsLaid Each parts steps sizes runs frames pairing items = IsByOrder steps sizes frames pairing items
@@ -64,6 +69,7 @@ IsLaidWhere true end parts steps runs frames pairing items =
     IsLaid end parts steps (map size_of runs) runs frames pairing items
 IsLaidWhere false end parts steps runs frames pairing items = IsApart (length steps) frames pairing items
 
+-- in one stack if the sizes of the runs add up to the frames that are told, else one below the other
 abbrev pub IsLaidIf : RunEnd → List Part → (steps : List Bool) → List Run → (frames : List ℕ) → Pairing → List Item
     → Type 0
 IsLaidIf end parts steps runs frames pairing items =

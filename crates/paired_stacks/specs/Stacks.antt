@@ -40,9 +40,11 @@ pub record PairedSeen : Type 0 where
   pub items : List Item
   pub hidden : List Bool
 
+-- a stack that was paired, in plain terms
 abbrev pub stack_seen : PairedStack → PairedSeen
 stack_seen s = record { thread = s.thread; pairing = s.pairing; items = s.items.items; hidden = s.hidden.items }
 
+-- a stack that was paired, in plain terms, where there is one
 abbrev pub seen_if : Option PairedStack → Option PairedSeen
 seen_if s = option_map stack_seen s
 
@@ -64,6 +66,7 @@ abbrev pub first_start : List (Option ℕ) → Option ℕ
 first_start [] = None
 first_start (s ∷ ss) = s
 
+-- the stack pointers of the threads behind the next one
 abbrev pub other_starts : List (Option ℕ) → List (Option ℕ)
 other_starts [] = []
 other_starts (s ∷ ss) = ss

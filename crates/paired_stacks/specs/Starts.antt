@@ -9,6 +9,7 @@ use Rattle.core_unwind.specs.Told.{thread_state}
 use Rattle.core_unwind.specs.declared.state.State.{State}
 use Rattle.native_frames.specs.Limits.{frame_machine}
 
+-- the stack pointer of a thread's state, where it is told
 abbrev pub pointer_in : Machine → Option State → Option ℕ
 pointer_in machine (Some s) = register_in s.registers (stack_pointer machine)
 pointer_in machine None = None
@@ -17,10 +18,12 @@ pointer_in machine None = None
 abbrev pub start_by : Machine → List ℕ → Option ℕ
 start_by machine status = pointer_in machine (thread_state machine status)
 
+-- the stack pointer by a status record, on a machine whose registers are told
 abbrev pub start_if : Option Machine → List ℕ → Option ℕ
 start_if (Some machine) status = start_by machine status
 start_if None status = None
 
+-- the stack pointer by a status record, on the machine of the core
 abbrev pub start_in : ElfMachine → List ℕ → Option ℕ
 start_in machine status = start_if (frame_machine machine) status
 

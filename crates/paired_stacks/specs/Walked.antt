@@ -5,6 +5,7 @@ use Rattle.py_fronts.specs.declared.salvaged.SalvagedInterpreter.{SalvagedInterp
 use Rattle.py_fronts.specs.declared.thread_front.ThreadFront.{ThreadFront}
 use Rattle.paired_stacks.specs.declared.walked.Walked.{Walked}
 
+-- of a thread of Python's its address, how many members were met, and how many frames are told
 abbrev pub walked_of : ThreadFront → Walked
 walked_of t = record {
   address = t.address;
@@ -12,6 +13,7 @@ walked_of t = record {
   frames = length t.frames.first.items ∷ t.frames.between ∷ length t.frames.last.items ∷ [];
 }
 
+-- what is needed of the threads of an interpreter, in the order of its chain
 abbrev pub walked_in : SalvagedInterpreter → List Walked
 walked_in i = map walked_of i.front.threads.threads.items
 

@@ -180,7 +180,7 @@ fn pair_all<P: ProcessMemory>(
 /// mark. Where the numbers don't allow it, the runs are not all frames that are shown, or it isn't known where runs
 /// end, the native frames stand first, and then Python's.
 ///
-/// The one error is want of memory. At most 4,194,338 reads for a thread.
+/// The one error is out of memory. At most 4,194,338 reads for a thread.
 pub fn pair_stacks<P: ProcessMemory>(
     alloc: Global,
     process: &mut P,

@@ -61,7 +61,7 @@ fn push_start(
 }
 
 /// The stack pointers of the threads of a core, by the status records among its notes, in their order: of each record,
-/// where it tells it. So the threads of `native_stacks::read_native_stacks` stand too. The one error is want of memory.
+/// where it tells it. So the threads of `native_stacks::read_native_stacks` stand too. The one error is out of memory.
 pub fn starts_of(
     alloc: Global,
     machine: ElfMachine,

@@ -115,7 +115,7 @@ fn known_value(alloc: Global, stack: &Option<PairedStack>) -> Result<Value, Allo
 /// found` (no native frame is found for the Python frames that follow) or `beside` (nothing tells where between the
 /// native frames those belong that follow); `thread`: the address of the thread's record.
 ///
-/// The keys of an object stand in the order of their bytes. The one error is want of memory.
+/// The keys of an object stand in the order of their bytes. The one error is out of memory.
 pub fn paired_value(alloc: Global, stacks: &[Option<PairedStack>]) -> Result<Value, AllocError>
     ensures value { IfOk result (λ value. view value ≡ all_tree stacks.now) }
     ensures no_float { has_float (all_tree stacks.now) ≡ false }

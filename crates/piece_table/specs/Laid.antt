@@ -7,6 +7,7 @@ use Rattle.elf64_core.specs.declared.span_table.TableEntry.{TableEntry}
 use Rattle.piece_table.specs.Overlays.{IsPieceOf, found_by, owner_of}
 use Rattle.piece_table.specs.declared.overlay.Owned.{Owned}
 
+-- the addresses of a piece
 abbrev pub table_entry_of : Owned → TableEntry
 table_entry_of p = p.entry
 
@@ -56,6 +57,7 @@ pub record HasPieceRoom (shift : ℕ) (p : Owned) : Type 0 where
   pub found_ends : p.entry.offset + p.entry.len ≤ 2 ^ 64 - 1
   pub owner_fits : p.owner + shift ≤ 2 ^ 64 - 1
 
+-- each piece stays below 2^64 where it is moved by so much
 abbrev pub HaveRoom : ℕ → List Owned → Type 0
 HaveRoom shift ps = AllByRecursion (HasPieceRoom shift) ps
 

@@ -32,6 +32,7 @@ pub record IsPieceOf (ranges : List TableEntry) (owner : ℕ) (piece : TableEntr
   pub ends : owner_of ranges (piece.start + piece.len) ≢ owner
   pub found : option_map (found_by piece.start) (slice_get ranges owner) ≡ Some piece.offset
 
+-- a piece is the part of one range that no earlier range has
 abbrev pub IsPiece : (ranges : List TableEntry) → TableEntry → Type 0
 IsPiece ranges piece = (owner : ℕ) × IsPieceOf ranges owner piece
 

@@ -8,6 +8,7 @@ use Rattle.piece_table.specs.Overlays.{IsBoundedRange, IsPiece, IsPieceOf, found
 use Rattle.piece_table.specs.declared.overlay.Owned.{Owned}
 use Rattle.piece_table.specs.declared.table.FileRange.{FileRange}
 
+-- the addresses of a range of a file
 abbrev pub range_of_file : FileRange → TableEntry
 range_of_file f = f.range
 
@@ -15,6 +16,7 @@ range_of_file f = f.range
 abbrev pub addresses_of : List FileRange → List TableEntry
 addresses_of ranges = map range_of_file ranges
 
+-- the number of the file that a range is of
 abbrev pub file_of_range : FileRange → ℕ
 file_of_range f = f.file
 

@@ -142,7 +142,7 @@ fn entries_of(alloc: Global, laid: &[Owned]) -> Result<Vec<TableEntry>, AllocErr
     laid.iter().map(|piece| piece.entry).collect(alloc)
 }
 
-/// Pieces as a table. More than 2^32 - 1 are refused for want of memory.
+/// Pieces as a table. More than 2^32 - 1 are refused for out of memory.
 pub(crate) fn table_of_laid(alloc: Global, laid: &[Owned]) -> Result<SpanTable, AllocError>
     requires { length laid.now < 2 ^ 32 → AreSpans (map table_entry_of laid.now) }
     ensures { IfOk result (λ table. table ≡ map table_entry_of laid.now) }

@@ -97,7 +97,7 @@ fn laid_by<L: Ledger>(
 }
 
 impl PieceTable {
-    /// The table of these ranges. The one error is want of memory, as which more than 2^32 - 1 pieces count.
+    /// The table of these ranges. The one error is out of memory, as which more than 2^32 - 1 pieces count.
     pub fn of(alloc: Global, ranges: Vec<FileRange>) -> Result<PieceTable, AllocError>
         requires { All IsBounded ranges.items }
         ensures { IfOk result (λ table. table ≡ ranges.items) }
@@ -108,7 +108,7 @@ impl PieceTable {
     }
 
     /// The table of this one's ranges and, after them, of others: these have what this one leaves. The one error
-    /// is want of memory, as which more than 2^32 - 1 pieces count.
+    /// is out of memory, as which more than 2^32 - 1 pieces count.
     pub fn followed_by(&self, alloc: Global, others: &[FileRange]) -> Result<PieceTable, AllocError>
         requires { All IsBounded others.now }
         ensures { IfOk result (λ table. table ≡ self.now ++ others.now) }

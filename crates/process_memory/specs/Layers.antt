@@ -9,6 +9,7 @@ use Rattle.process_memory.specs.Seen.{Seen}
 abbrev pub plain : List Region → Seen
 plain pieces = record { pieces = pieces; reads = 0; ranges = None; counter = None; may_want_memory = false }
 
+-- how many reads there were: those of the counter, where there is one, and else the ranges that are kept
 abbrev pub counted_or : Option GName → ℕ → ℕ → ℕ
 counted_or None reads recorded = recorded
 counted_or (Some name) reads recorded = reads

@@ -16,10 +16,12 @@ Region = ℕ × List ℕ
 abbrev pub region_byte : Region → Memory
 region_byte p a = if nat_le p.0 a then slice_get p.1 (a - p.0) else None
 
+-- the first byte where there is one, else the second
 abbrev pub first_of : Option ℕ → Option ℕ → Option ℕ
 first_of None o = o
 first_of (Some b) o = Some b
 
+-- the byte at an address of the first piece that holds it
 abbrev pub first_byte : List Region → Memory
 first_byte [] a = None
 first_byte (p ∷ ps) a = first_of (region_byte p a) (first_byte ps a)
@@ -79,6 +81,7 @@ pub data Fault : Type 0 where
 abbrev pub Found : Type 0 → Type 0
 Found T = Result T Fault
 
+-- the value, where there is one, else this fault
 abbrev pub found_or : {T : Type 0} → Option T → Fault → Found T
 found_or None r = Err r
 found_or (Some x) r = Ok x

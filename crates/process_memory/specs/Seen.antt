@@ -27,24 +27,27 @@ abbrev pub with_range : Option (List Span) → Span → Option (List Span)
 with_range None s = None
 with_range (Some xs) s = Some (xs ++ s ∷ [])
 
+-- the ranges after a read: one more exactly where it was read with Ok
 abbrev pub ranges_after : {T E : Type 0} → Result T E → Option (List Span) → Span → Option (List Span)
 ranges_after (Ok x) rs s = with_range rs s
 ranges_after (Err e) rs s = rs
 
--- the fault that an error names; want of memory names none
+-- the fault that an error names; out of memory names none
 abbrev pub read_fault : ReadFault → Option Fault
 read_fault (Unreadable a n) = Some (Missing a n)
 read_fault OutOfMemory = None
 
+-- a definition fails with this fault, where one is named
 abbrev pub FaultIs : {T : Type 0} → Found T → Option Fault → Type 0
 FaultIs d None = ⊤
 FaultIs d (Some f) = d ≡ Err f
 
+-- a result is the definition's value, or names the definition's fault
 abbrev pub AnswerIs : {T E : Type 0} → (E → Option Fault) → Found T → Result T E → Type 0
 AnswerIs fault d (Ok x) = d ≡ Ok x
 AnswerIs fault d (Err e) = FaultIs d (fault e)
 
--- a result is what the definition says, or a want of memory
+-- a result is what the definition says, or a out of memory
 pub record Answers {T E : Type 0} (fault : E → Option Fault) (definition : Found T) (result : Result T E) : Type 0 where
   pub is : AnswerIs fault definition result
 
@@ -57,10 +60,12 @@ pub record OneRead (old new : Seen) (addr len : ℕ) (result : Result (List ℕ)
   pub ranges : new.ranges ≡ ranges_after result old.ranges (record { start = addr; len = len })
   pub answer : Answers read_fault (record_at (byte_at old.pieces) addr len) result
 
+-- the bytes of the buffer, where the read was Ok
 abbrev pub with_bytes : {E : Type 0} → List ℕ → Result Unit E → Result (List ℕ) E
 with_bytes bytes (Ok u) = Ok bytes
 with_bytes bytes (Err e) = Err e
 
+-- a result with the items of its vector
 abbrev pub items_of : {T E : Type 0} → Result (Vec T) E → Result (List T) E
 items_of (Ok v) = Ok v.items
 items_of (Err e) = Err e
@@ -72,6 +77,7 @@ Extends None (Some ys) = ⊥
 Extends (Some xs) None = ⊥
 Extends (Some xs) (Some ys) = (zs : List Span) × (ys ≡ xs ++ zs)
 
+-- all bytes of a range are in a memory
 abbrev pub HoldsSpan : Memory → Span → Type 0
 HoldsSpan m s = (k : ℕ) → k < s.len → IsSome (m (s.start + k))
 

@@ -26,6 +26,7 @@ walk_at over step (suc limit) state (suc a) = do
   parts ← walk_at over step limit x.state x.next
   Ok (x.part ∷ parts)
 
+-- what the rest of a walk costs, where this step can be taken
 abbrev pub cost_next : {S T : Type 0} → Found (Step S T) → (S → ℕ → ℕ) → ℕ
 cost_next (Ok x) f = f x.state x.next
 cost_next (Err e) f = 0
@@ -37,6 +38,7 @@ walk_cost step cost zero state (suc a) = 0
 walk_cost step cost (suc limit) state (suc a) =
     cost state (suc a) + cost_next (step state (suc a)) (λ s n. walk_cost step cost limit s n)
 
+-- a list before what is found behind it
 abbrev pub after_all : {T : Type 0} → List T → Found (List T) → Found (List T)
 after_all xs (Ok ys) = Ok (xs ++ ys)
 after_all xs (Err f) = Err f
@@ -53,6 +55,7 @@ pub record Walking {S T : Type 0} (allowed : Memory → Span → Type 0) (over :
   pub budget : spent + walk_cost (step (byte_at old.pieces)) (cost (byte_at old.pieces)) (limit - met) state at
       ≡ walk_cost (step (byte_at old.pieces)) (cost (byte_at old.pieces)) limit start head
 
+-- the faults of the rest of a walk, where it goes on
 abbrev pub goes_on : {S : Type 0} → Found (ℕ × S) → (S → ℕ → List Fault) → List Fault
 goes_on (Ok x) f = f x.1 x.0
 goes_on (Err e) f = []
@@ -65,14 +68,17 @@ walk_faults over go faults zero state (suc a) = over ∷ []
 walk_faults over go faults (suc limit) state (suc a) = faults state (suc a)
     ++ goes_on (go state (suc a)) (λ s n. walk_faults over go faults limit s n)
 
+-- the first of some faults
 abbrev pub first_fault : List Fault → Option Fault
 first_fault [] = None
 first_fault (f ∷ fs) = Some f
 
+-- the first fault where there is one, else the second
 abbrev pub or_else : Option Fault → Option Fault → Option Fault
 or_else None o = o
 or_else (Some f) o = Some f
 
+-- the fault of what wasn't found
 abbrev pub fault_in : {T : Type 0} → Found T → Option Fault
 fault_in (Ok x) = None
 fault_in (Err f) = Some f

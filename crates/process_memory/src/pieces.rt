@@ -75,7 +75,7 @@ fn read_whole<P: Pieces>(pieces: &P, addr: u64, buf: &mut [u8]) -> bool
 /// Fills the buffer with the bytes from `addr` on, each that of the first piece that holds its address.
 ///
 /// Ok exactly where every byte of the range is there; else `Unreadable` names the range, and the buffer is
-/// as it was. Want of memory never comes.
+/// as it was. Out of memory never comes.
 pub fn read_pieces<P: Pieces>(pieces: &P, addr: u64, buf: &mut [u8]) -> Result<(), ReadFault>
     ensures gives { Answers read_fault
         (record_at (byte_at (P.regions pieces.now)) addr (length buf.old))

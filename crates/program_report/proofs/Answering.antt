@@ -1,4 +1,4 @@
--- What the report of a core answers, where one report is right, is that report or want of memory.
+-- What the report of a core answers, where one report is right, is that report or out of memory.
 use Rattle.std.proofs.Common.{◌≡◌, ◌⊎◌, ◌<◌, ℕ, List, [], ◌∷◌, refl, ap, ◌∙◌, inl, inr, arith}
 use Rattle.std.proofs.lemmas.List.Elements.{All-cons, All-nil}
 use Rattle.std.specs.Prelude.{Result, Ok, Err, IfOk, IfErr}
@@ -15,7 +15,7 @@ use Rattle.py_process.proofs.Agreement.{err_is, ok_is, ok_not_err}
 use Rattle.image_builder.specs.Inverse.{IsReportOf}
 use Rattle.image_builder.specs.Shown.{without_addresses}
 
--- what is right is the answer, want of memory aside
+-- what is right is the answer, out of memory aside
 abbrev pub AnswersRight : List ℕ → Pushed → List Layout → Config → Result Report CoreError → Type 0
 AnswersRight core images layouts c result = (r : Reported) → IsRight core images layouts c r
     → (reported result ≡ Ok r) ⊎ (reported result ≡ Err OutOfMemory)

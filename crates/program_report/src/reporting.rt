@@ -22,7 +22,7 @@ use py_process::{CoreError, Report};
 use py_stacks::Config;
 use std::alloc::{AllocError, Global};
 
-/// An image alone, under its path. The one error is want of memory.
+/// An image alone, under its path. The one error is out of memory.
 fn image_of(alloc: Global, path: Name, image: Vec<u8>) -> Result<Images, AllocError>
     ensures { IfOk result (λ images. images ≡ image_alone path image.items) }
 {
@@ -31,7 +31,7 @@ fn image_of(alloc: Global, path: Name, image: Vec<u8>) -> Result<Images, AllocEr
     Ok(images)
 }
 
-/// A list of one layout. The one error is want of memory.
+/// A list of one layout. The one error is out of memory.
 fn list_of(alloc: Global, layout: Layout) -> Result<Layouts, AllocError>
     requires { IsSound layout }
     ensures { IfOk result (λ layouts. layouts ≡ layout ∷ []) }
@@ -51,7 +51,7 @@ fn list_of(alloc: Global, layout: Layout) -> Result<Layouts, AllocError>
 /// the runtime record's field (`image_builder::has_word_room`), and neither native frames nor those of other processes
 /// are asked for, the report shows that program: its threads, frames, lines and locals, in order, and nothing else,
 /// whatever the addresses of the locals are; and the version, with no zeros in front of its serial number. The one
-/// error of the report is want of memory then.
+/// error of the report is out of memory then.
 pub fn report_of_program(
     alloc: Global,
     program: &Program,

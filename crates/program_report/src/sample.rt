@@ -18,7 +18,7 @@ use py_process::Report;
 use py_stacks::{Config, StackTrace};
 use std::alloc::{AllocError, Global};
 
-/// The one reason why the program of a seed isn't written: want of memory.
+/// The one reason why the program of a seed isn't written: out of memory.
 fn unbuilt(seed: u64, _error: BuildError) -> AllocError
     requires { IsUnbuilt sample_layout (release 3 9 0) X86_64 (generated seed) _error }
 {
@@ -29,7 +29,7 @@ fn unbuilt(seed: u64, _error: BuildError) -> AllocError
 /// the layout of `py_fields::Layout::sample`, version 3.9.0 and x86-64.
 ///
 /// It is a core, and a walk over it by that layout, from the interpreter at 0x600000 and with no lock, has exactly the
-/// stacks of the program. The one error is want of memory.
+/// stacks of the program. The one error is out of memory.
 pub fn sample_core(alloc: Global, seed: u64) -> Result<Vec<u8>, AllocError>
     ensures bytes { IfOk result (λ core. core.items ≡ sample_core seed) }
     ensures stacks { IfOk result (λ core. IsCoreOf sample_layout (generated seed) core.items) }
@@ -48,7 +48,7 @@ pub fn sample_core(alloc: Global, seed: u64) -> Result<Vec<u8>, AllocError>
     }
 }
 
-/// The report of the program of a seed. The one error is want of memory.
+/// The report of the program of a seed. The one error is out of memory.
 fn sample_report(alloc: Global, seed: u64) -> Result<Report, AllocError>
     ensures { IfOk result (λ report. IsSampleReport seed (reported_of report)) }
 {
@@ -83,7 +83,7 @@ fn frames_of(traces: &[StackTrace]) -> u64
 /// Three lines: the seed, and how many threads and frames the report of its program has, which is made, written as a
 /// core and an image for the layout of `py_fields::Layout::sample`, version 3.9.0 and x86-64, and reported.
 ///
-/// These are the threads and frames of the program itself (`image_builder::generate`). The one error is want of memory.
+/// These are the threads and frames of the program itself (`image_builder::generate`). The one error is out of memory.
 pub fn sample_text(alloc: Global, seed: u64) -> Result<Vec<u8>, AllocError>
     ensures { IfOk result (λ text. text.items ≡ sample_text seed (generated seed)) }
 {

@@ -1,4 +1,4 @@
--- Two outcomes of two steps have one status, want of memory aside, where those of each step have; and none is a cause
+-- Two outcomes of two steps have one status, out of memory aside, where those of each step have; and none is a cause
 -- where none of theirs is.
 use Rattle.std.proofs.Common.{◌≡◌, ◌≢◌, ◌⊎◌, ℕ, List, Result, Ok, Err, sym, ap, ◌∙◌, ⊎_elim}
 use Rattle.py_layout.specs.declared.error.LayoutError.{LayoutError}
@@ -15,7 +15,7 @@ AgreeBy {Cause} cause_status class Right = (a b : Result (List ℕ) Cause) → R
     → status_by cause_status a ≢ 5 → status_by cause_status b ≢ 5
     → class (status_by cause_status a) ≡ class (status_by cause_status b)
 
--- no cause is right but want of memory, and some of a program's own
+-- no cause is right but out of memory, and some of a program's own
 abbrev pub NoCauseBut : {Cause : Type 0} → (Cause → ℕ) → (Own : Cause → Type 0) → (Result (List ℕ) Cause → Type 0) → Type 0
 NoCauseBut {Cause} cause_status Own Right = (cause : Cause) → cause_status cause ≢ 5 → Right (Err cause) → Own cause
 

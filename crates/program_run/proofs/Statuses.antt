@@ -1,4 +1,4 @@
--- A cause that isn't want of memory has its own status, and none has that of another end.
+-- A cause that isn't out of memory has its own status, and none has that of another end.
 use Rattle.std.proofs.Common.{◌≡◌, ◌≢◌, ◌⊎◌, ◌<◌, ◌≤◌, ℕ, refl, arith, inl, inr, ⊎_elim}
 use Rattle.std.proofs.lemmas.Bool.Decides.{eqb_tells}
 use Rattle.py_layout.specs.declared.error.LayoutError.{LayoutError}

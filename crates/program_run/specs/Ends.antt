@@ -33,6 +33,7 @@ pub record Reaches {Command Cause : Type 0} (p : Program Command Cause) (asked :
 
 -- ---- how a run ends
 
+-- how a run ends: printed, stopped by a cause, arguments refused, a file unread, or the output cut
 pub data End (Cause : Type 0) : Type 0 where
   printed : End Cause
   stopped : Cause → End Cause
@@ -40,6 +41,7 @@ pub data End (Cause : Type 0) : Type 0 where
   unread : List ℕ → FileFault → End Cause
   cut : End Cause
 
+-- the status of an end
 abbrev pub end_status : {Cause : Type 0} → (Cause → CauseSays) → End Cause → ℕ
 end_status says printed = 0
 end_status says (stopped cause) = (says cause).status
@@ -67,6 +69,7 @@ pub record Ran : Type 0 where
   pub out : SinkSeen
   pub out_after : SinkSeen
 
+-- the files and the output before and after a run
 abbrev pub ran : FilesSeen → FilesSeen → SinkSeen → SinkSeen → Ran
 ran files files_after out out_after =
     record { files = files; files_after = files_after; out = out; out_after = out_after }

@@ -34,7 +34,7 @@ pub record IsUnread (Asks : List ℕ → Type 0) (old new : FilesSeen) (name : L
   pub not_memory : why ≢ fault.OutOfMemory
   pub failed : new.failed ≡ old.failed ++ (name, why) ∷ []
 
--- what reading files that are asked for may leave: one that could not be read, or want of memory
+-- what reading files that are asked for may leave: one that could not be read, or out of memory
 abbrev pub IsUnreadTrouble : (List ℕ → Type 0) → FilesSeen → FilesSeen → FileTrouble → Type 0
 IsUnreadTrouble Asks old new (File n why) = IsUnread Asks old new n.now why
 IsUnreadTrouble Asks old new OutOfMemory = new.failed ≡ old.failed
@@ -53,11 +53,12 @@ HasFiles old new names (Err trouble) = IsUnreadTrouble (AsksAmong old.told names
 abbrev pub core_contents : CoreFiles → List (List ℕ)
 core_contents files = files.core.items ∷ files.layouts.items ∷ contents files.images.items
 
+-- the files of a core were read, or the first that can't be
 abbrev pub HasCoreFiles : FilesSeen → FilesSeen → List (List ℕ) → Result CoreFiles FileTrouble → Type 0
 HasCoreFiles old new names (Ok files) = HasAll old new names (core_contents files)
 HasCoreFiles old new names (Err trouble) = IsUnreadTrouble (AsksAmong old.told names) old new trouble
 
--- what is wrong with a run where a file is not read, of a program in which this cause is want of memory
+-- what is wrong with a run where a file is not read, of a program in which this cause is out of memory
 abbrev pub trouble_of : {Cause : Type 0} → Cause → FileTrouble → Trouble Cause
 trouble_of memory (File name why) = run.File name why
 trouble_of memory OutOfMemory = run.Cause memory

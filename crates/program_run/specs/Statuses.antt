@@ -5,7 +5,7 @@ use Rattle.py_layout.specs.declared.error.LayoutError.TheVariants as layout
 use Rattle.py_process.specs.declared.core_error.CoreError.{CoreError}
 use Rattle.py_process.specs.declared.core_error.CoreError.TheVariants as core
 
--- a core that can't be worked on: want of memory has one status, wherever it came
+-- a core that can't be worked on: out of memory has one status, wherever it came
 abbrev pub core_status : CoreError → ℕ
 core_status core.OutOfMemory = 5
 core_status _ = 1

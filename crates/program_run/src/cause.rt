@@ -11,10 +11,10 @@ pub trait RunCause {
     /// What is said of a cause: the status with which a run ends by it, and the parts of its line.
     ghost says: { Self → CauseSays };
 
-    /// Want of memory.
+    /// Out of memory.
     ghost memory: { Self };
 
-    /// Want of memory, whose status is 5.
+    /// Out of memory, whose status is 5.
     fn out_of_memory() -> Self
         ensures memory { result ≡ memory }
         ensures status { (says result).status ≡ 5 };

@@ -8,7 +8,7 @@ use elf64_core::Name;
 use outside::{FileFault, Files};
 use std::alloc::Global;
 
-/// The bytes of one file; or its name and fault, where it can't be read or is too long, or want of memory.
+/// The bytes of one file; or its name and fault, where it can't be read or is too long, or out of memory.
 pub fn read_file<'a, F: Files>(
     alloc: Global,
     name: &'a [u8],

@@ -79,6 +79,7 @@ pub record IsConsulted (l : Layout) (m : Memory) (s : Span) : Type 0 where
 abbrev pub ReadingFields : ℕ → Seen → Seen → (Memory → Type 0) → Type 0
 ReadingFields n old new Q = ReadingOf IsField n old new Q
 
+-- the same of a reader that looks at fields alone, each as long as a number of 1, 2, 4 or 8 bytes
 abbrev pub ReadsFields : {T E : Type 0} → (E → Option Fault) → ℕ → Seen → Seen → (Memory → Found T) → Result T E
     → Type 0
 ReadsFields fault n old new definition result = ReadsOf IsField fault n old new definition result
@@ -87,6 +88,7 @@ ReadsFields fault n old new definition result = ReadsOf IsField fault n old new 
 abbrev pub Consulting : Layout → ℕ → Seen → Seen → (Memory → Type 0) → Type 0
 Consulting l n old new Q = ReadingOf (IsConsulted l) n old new Q
 
+-- a reader's result is the definition's, by at most so many reads, each of a range that a layout consults
 abbrev pub Consults : {T E : Type 0} → Layout → (E → Option Fault) → ℕ → Seen → Seen → (Memory → Found T)
     → Result T E → Type 0
 Consults l fault n old new definition result = ReadsOf (IsConsulted l) fault n old new definition result
@@ -95,6 +97,7 @@ Consults l fault n old new definition result = ReadsOf (IsConsulted l) fault n o
 abbrev pub ConsultingBy : Layout → (Memory → ℕ) → Seen → Seen → (Memory → Type 0) → Type 0
 ConsultingBy l cost old new Q = Consulting l (cost (byte_at old.pieces)) old new Q
 
+-- the same, where the memory itself says how many reads there are at most
 abbrev pub ConsultsBy : {T E : Type 0} → Layout → (E → Option Fault) → (Memory → ℕ) → Seen → Seen
     → (Memory → Found T) → Result T E → Type 0
 ConsultsBy l fault cost old new definition result =

@@ -61,6 +61,7 @@ slots_in dicts k at values keys = do
   index ← index_in dicts k keys
   Ok (record { count = count; entries = at + k.size + index.bytes; has_hash = index.has_hash; values = values })
 
+-- the slots of keys at an address, where the layout has keys
 abbrev pub keys_by : Dicts → Memory → ℕ → ℕ → Option KeysAt → Found Slots
 keys_by dicts m at values None = Err BadDict
 keys_by dicts m at values (Some k) = do
@@ -71,6 +72,7 @@ keys_by dicts m at values (Some k) = do
 unfoldable pub keys_slots : Layout → Memory → ℕ → ℕ → Found Slots
 keys_slots l m at values = keys_by l.dicts m at values l.keys
 
+-- the slots of a dict, where the layout has dicts
 abbrev pub dict_by : Layout → Memory → ℕ → Option DictAt → Found Slots
 dict_by l m a None = Err BadDict
 dict_by l m a (Some d) = do
@@ -81,6 +83,7 @@ dict_by l m a (Some d) = do
 unfoldable pub dict_slots : Layout → Memory → ℕ → Found Slots
 dict_slots l m a = dict_by l m a l.dict
 
+-- whether a number is odd
 abbrev pub is_odd : ℕ → Bool
 is_odd n = n % 2 == 1
 
@@ -101,6 +104,7 @@ shared_slots l m h t values = do
   heap ← record_at m t h.size
   keys_slots l m (u64_in heap h.cached_keys) values
 
+-- the slots of the dict that an object names; none where it names none
 abbrev pub own_slots : Layout → Memory → ℕ → Found Slots
 own_slots l m zero = Err BadDict
 own_slots l m (suc dict) = dict_slots l m (suc dict)
@@ -110,6 +114,7 @@ unfoldable pub held_slots : Layout → Memory → HeapAt → ℕ → ℕ → ℕ
 held_slots l m h a t flags zero dict = own_slots l m dict
 held_slots l m h a t flags (suc values) dict = shared_slots l m h t (values_of h a flags (suc values))
 
+-- the slots of the attributes that stand before an object or in it, where the layout has heap types
 abbrev pub managed_by : Layout → Memory → ℕ → ℕ → ℕ → Option HeapAt → Found Slots
 managed_by l m a t flags None = Err BadDict
 managed_by l m a t flags (Some h) = do
@@ -160,6 +165,7 @@ pub record Cursor : Type 0 where
   pub slots : Slots
   pub passed : ℕ
 
+-- a result with the slots that its cursor goes through
 abbrev pub slots_of : {E : Type 0} → Result Cursor E → Result Slots E
 slots_of (Ok c) = Ok c.slots
 slots_of (Err e) = Err e

@@ -20,6 +20,7 @@ pub record StartsAt (n : ℕ) (old new : Seen) (slots : Memory → Found Slots) 
 abbrev pub AreEmpty : (ℕ → Found Slot) → ℕ → ℕ → Type 0
 AreEmpty slot from to = (number : ℕ) → from ≤ number → number < to → slot number ≡ Ok Empty
 
+-- a result with the key and the value of an entry
 abbrev pub as_slot : Result (ℕ × ℕ) ObjectError → Result Slot ObjectError
 as_slot (Ok entry) = Ok (Entry entry.0 entry.1)
 as_slot (Err e) = Err e

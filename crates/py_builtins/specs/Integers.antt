@@ -23,6 +23,7 @@ digits_of Signed count = record {
 }
 digits_of Tagged count = record { count = count / 8; negative = count % 4 == 2 }
 
+-- a magnitude with its sign
 abbrev pub signed : Bool → ℕ → ℤ
 signed negative n = if negative then neg_ℤ (pos n) else pos n
 
@@ -39,6 +40,7 @@ magnitude_at l m a object (suc (suc zero)) = do
   Ok (two_big_digits word)
 magnitude_at l m a object (suc (suc (suc n))) = Ok (suc (suc (suc n)))
 
+-- the number that digits are, and whether there are more than two
 unfoldable pub long_by : Layout → Memory → ℕ → List ℕ → Digits → Found (ℤ × Bool)
 long_by l m a object digits = do
   magnitude ← magnitude_at l m a object digits.count

@@ -8,7 +8,7 @@ use Rattle.py_builtins.specs.declared.error.ObjectError.{ObjectError}
 use Rattle.py_builtins.specs.declared.error.ObjectError.TheVariants.{Unreadable, NoText, TooLong, BadDict, BadType}
 use Rattle.py_builtins.specs.declared.error.ObjectError.TheVariants.{Visits, Depth, BadCount, BadBool, OutOfMemory}
 
--- the fault that an error names; want of memory names none
+-- the fault that an error names; out of memory names none
 abbrev pub object_fault : ObjectError → Option Fault
 object_fault (Unreadable a n) = Some (Missing a n)
 object_fault NoText = Some HasNoText

@@ -41,6 +41,7 @@ read_as Latin1 bytes = bytes
 read_as Utf16 bytes = utf16_lossy_chars (numbers_of w16 2 bytes)
 read_as Utf32 bytes = numbers_of w32 4 bytes
 
+-- whether these bytes are the coding of these characters
 abbrev pub is_coding_of : TextKind → List ℕ → List ℕ → Bool
 is_coding_of k cs bytes = all_scalars cs && bytes_eq (coded k cs) bytes
 

@@ -33,6 +33,7 @@ state_of_fields (Some state) (Some pointer) (Some long_at) (Some kind_shift) (So
     })
 state_of_fields _ _ _ _ _ _ = None
 
+-- where the parts of a text's state stand, where the layout has a state
 abbrev pub state_at : StringAt → Option StateAt
 state_at s = state_of_fields s.state s.pointer s.long_at s.kind_shift s.compact_bit s.ascii_bit
 
@@ -57,15 +58,18 @@ place_in t s a object state =
     then (if bit_is_set state s.ascii_bit then a + t.short_at else a + s.long_at)
     else u64_in object s.pointer
 
+-- characters of this kind at an address, where the kind is known
 abbrev pub with_place : ℕ → Option TextKind → Option Characters
 with_place at None = None
 with_place at (Some k) = Some (record { kind = k; at = at })
 
+-- how a text's characters are coded and where they stand, by its state
 abbrev pub characters_by : StringAt → ℕ → List ℕ → Option StateAt → Option Characters
 characters_by t a object None = None
 characters_by t a object (Some s) =
     with_place (place_in t s a object (u32_in object s.state)) (kind_in s (u32_in object s.state))
 
+-- the same by the family of texts: a text without a state is UTF-8 behind its record
 abbrev pub characters_with : Strings → StringAt → ℕ → List ℕ → Option Characters
 characters_with State t a object = characters_by t a object (state_at t)
 characters_with Bytes t a object = Some (record { kind = Utf8; at = a + t.short_at })

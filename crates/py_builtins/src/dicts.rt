@@ -58,7 +58,7 @@ impl DictCursor {
     /// a power of 2, and a kind, of which 0 alone has entries with a hash.
     ///
     /// A layout without dicts is `BadDict`, and so is a negative number of slots and an index of 2^64 bytes or
-    /// more. A record that is not in memory is `Unreadable`. It takes no memory: want of memory comes only
+    /// more. A record that is not in memory is `Unreadable`. It takes no memory: out of memory comes only
     /// where a read of the process may want it. At most 2 reads.
     pub fn from<P: ProcessMemory>(
         process: &mut P,
@@ -84,7 +84,7 @@ impl DictCursor {
     /// without managed dicts, is `BadDict`.
     ///
     /// What is not in memory is `Unreadable`, in the order words, type, keys, or words, dict, keys. It takes
-    /// no memory: want of memory comes only where a read of the process may want it. At most 4 reads.
+    /// no memory: out of memory comes only where a read of the process may want it. At most 4 reads.
     pub fn from_managed_dict<P: ProcessMemory>(
         process: &mut P,
         layout: &Layout,

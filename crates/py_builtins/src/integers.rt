@@ -16,7 +16,7 @@ const RECORD_LIMIT: usize = 65535;
 
 /// The number that an object has, by the rule of Python 2's `int` objects: the 8 bytes in its record, signed.
 ///
-/// A record that is not in memory is `Unreadable`. It takes no memory: want of memory comes only where a read
+/// A record that is not in memory is `Unreadable`. It takes no memory: out of memory comes only where a read
 /// of the process may want it. One read.
 pub fn copy_int<P: ProcessMemory>(
     process: &mut P,
@@ -52,7 +52,7 @@ pub struct Digits {
 /// with its sign, and true.
 ///
 /// The record is looked at first, then 8 bytes at the digits where there are two; what is not in memory is
-/// `Unreadable`. It takes no memory: want of memory comes only where a read of the process may want it. At
+/// `Unreadable`. It takes no memory: out of memory comes only where a read of the process may want it. At
 /// most 2 reads.
 pub fn copy_long<P: ProcessMemory>(
     process: &mut P,

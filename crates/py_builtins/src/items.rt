@@ -115,7 +115,7 @@ fn items_by(layout: &Layout, sequence: Sequence, addr: u64, object: &[u8], count
     }
 }
 
-/// The item of a number, from 0 on. What is not in memory is `Unreadable`. It takes no memory: want of memory comes
+/// The item of a number, from 0 on. What is not in memory is `Unreadable`. It takes no memory: out of memory comes
 /// only where a read of the process may want it. At most one read.
 #[tactic(auto, unfolding(crate::specs::Items::item_at))]
 pub fn read_item<P: ProcessMemory>(

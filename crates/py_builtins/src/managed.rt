@@ -53,7 +53,7 @@ pub fn read_managed<P: ProcessMemory>(
 
 /// The word so far before an address.
 ///
-/// A word that is not in memory is `Unreadable`, and so is one before address 0. It takes no memory: want of memory
+/// A word that is not in memory is `Unreadable`, and so is one before address 0. It takes no memory: out of memory
 /// comes only where a read of the process may want it. At most one read.
 pub fn word_before<P: ProcessMemory>(
     process: &mut P,

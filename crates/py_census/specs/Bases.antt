@@ -34,6 +34,7 @@ leads_at base sets m class (suc left) = unless_told sets class
 abbrev pub most_bases : ℕ
 most_bases = 16
 
+-- whether a class is a set's, where the types of sets are known
 abbrev pub set_class_by : (base : ℕ) → Option SetClasses → Memory → (class : ℕ) → Option Bool
 set_class_by base None m class = Some false
 set_class_by base (Some sets) m class = leads_at base sets m class most_bases

@@ -20,6 +20,7 @@ use Rattle.py_census.specs.Sizes.{class_size_at, fits}
 abbrev pub is_list : (flags : ℕ) → Bool
 is_list flags = bit_is_set flags 25
 
+-- whether a class is `dict` or derives from it (`Py_TPFLAGS_DICT_SUBCLASS`, Include/object.h)
 abbrev pub is_dict : (flags : ℕ) → Bool
 is_dict flags = bit_is_set flags 29
 
@@ -48,6 +49,7 @@ entry_size kind = if nat_eq kind 0 then 24 else 16
 abbrev pub slots_bytes : (slots : ℕ) → Option ℕ
 slots_bytes n = fits (40 + n * index_width n + n * 2 / 3 * 24)
 
+-- the bytes of keys whose record has powers of two (`DK_LOG_SIZE`, from 3.11 on, Objects/dictobject.c)
 abbrev pub powered : (slots index kind : ℕ) → Option ℕ
 powered slots index kind = fits (32 + 2 ^ index + 2 ^ slots * 2 / 3 * entry_size kind)
 
@@ -57,6 +59,7 @@ powers_bytes w = if nat_lt (w % 256) 64 && nat_lt (w / 256 % 256) 64
     then powered (w % 256) (w / 256 % 256) (w / 65536 % 256)
     else None
 
+-- the bytes of a dict's keys, by how their record states the size
 abbrev pub keys_bytes : KeysForm → (word : ℕ) → Option ℕ
 keys_bytes Slots w = slots_bytes w
 keys_bytes Powers w = powers_bytes w
@@ -67,6 +70,7 @@ own_bytes form None word = None
 own_bytes form (Some owners) None = None
 own_bytes form (Some owners) (Some word) = if nat_eq owners 1 then keys_bytes form word else Some 0
 
+-- the bytes of the keys that a dict names
 abbrev pub keys_at : SizePlaces → Memory → (keys : Option ℕ) → Option ℕ
 keys_at p m None = None
 keys_at p m (Some keys) = own_bytes p.keys_form (known (word_at m (keys + 0))) (known (word_at m (keys + 8)))
@@ -81,6 +85,7 @@ dict_at p m object = keys_at p m (known (word_at m (object + p.keys)))
 abbrev pub is_type : (flags : ℕ) → Bool
 is_type flags = bit_is_set flags 31
 
+-- the bytes of a dict's keys, where the word that states their size can be read
 abbrev pub bytes_if : KeysForm → (word : Option ℕ) → Option ℕ
 bytes_if form None = None
 bytes_if form (Some word) = keys_bytes form word
@@ -112,6 +117,7 @@ table_by object own None mask = None
 table_by object own (Some table) None = None
 table_by object own (Some table) (Some mask) = if is_small object own table then Some 0 else entries_bytes mask
 
+-- the bytes of a set's table, where it isn't inside the object (Objects/setobject.c)
 abbrev pub table_at : SizePlaces → Memory → (object : ℕ) → Option ℕ
 table_at p m object = table_by object p.own_table (known (word_at m (object + p.table)))
     (known (word_at m (object + p.mask)))
@@ -124,11 +130,13 @@ set_at p m (Some true) object = table_at p m object
 
 -- ---- objects
 
+-- the bytes of the separate block of a list, a dict or a set
 abbrev pub block_at : SizePlaces → Memory → ClassSize → (object : ℕ) → Option ℕ
 block_at p m class object = if is_list class.flags then room_at p m object
     else (if is_dict class.flags then dict_at p m object
     else (if is_type class.flags then type_at p m object else set_at p m class.of_sets object))
 
+-- the same, where the class can be read
 abbrev pub more_by : SizePlaces → Memory → Option ClassSize → (object : ℕ) → Option ℕ
 more_by p m None object = None
 more_by p m (Some class) object = block_at p m class object

@@ -11,9 +11,11 @@ pub record Counted : Type 0 where
   pub classes : List CountedClass
   pub unreadable : ℕ
 
+-- the classes that were counted, and how many blocks can't be read
 abbrev pub counted_of : Census → Counted
 counted_of census = record { classes = census.classes.items; unreadable = census.unreadable }
 
+-- whether a class is this one
 abbrev pub is_class : (class : ℕ) → Option ℕ → Bool
 is_class class None = false
 is_class class (Some c) = nat_eq c class

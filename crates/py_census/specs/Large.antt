@@ -30,10 +30,12 @@ put_all ys (x ∷ xs) = put_all (put x ys) xs
 abbrev pub in_order : List LargeObject → List LargeObject
 in_order xs = put_all [] xs
 
+-- the first of some objects
 abbrev pub head_of : List LargeObject → Option LargeObject
 head_of [] = None
 head_of (x ∷ xs) = Some x
 
+-- all but the first of some objects
 abbrev pub tail_of : List LargeObject → List LargeObject
 tail_of [] = []
 tail_of (x ∷ xs) = xs
@@ -48,13 +50,16 @@ largest size more objects = first_three (in_order (map (λ a. large_of a (size a
 
 -- ---- one more object
 
+-- no largest objects
 abbrev pub none_large : Largest
 none_large = record { first = None; second = None; third = None }
 
+-- whether an object goes before another one, where there is one
 abbrev pub goes_before : LargeObject → Option LargeObject → Bool
 goes_before x None = true
 goes_before x (Some y) = comes_before x y
 
+-- the three largest objects, with one more looked at
 abbrev pub with_large : Largest → LargeObject → Largest
 with_large l x =
     if goes_before x l.first then record { first = Some x; second = l.first; third = l.second }

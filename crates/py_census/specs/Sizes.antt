@@ -25,6 +25,7 @@ class_at l m object = known (word_at m (object + l.object.klass))
 
 -- ---- what a class says of its objects
 
+-- what a class says of the sizes of its objects, where all of it can be read
 abbrev pub class_size_by : (basic item flags : Option ℕ) → (of_sets : Option Bool) → Option ClassSize
 class_size_by None item flags sets = None
 class_size_by (Some b) None flags sets = None
@@ -36,6 +37,7 @@ abbrev pub class_size_at : Layout → SizePlaces → Memory → ℕ → Option C
 class_size_at l p m class = class_size_by (known (word_at m (class + p.basic_size)))
     (known (word_at m (class + p.item_size))) (known (word_at m (class + l.klass.flags))) (set_class_at p m class)
 
+-- whether a class is `int` or derives from it (`Py_TPFLAGS_LONG_SUBCLASS`, Include/object.h)
 abbrev pub is_integer : (flags : ℕ) → Bool
 is_integer flags = bit_is_set flags 24
 
@@ -45,14 +47,17 @@ has_count flags = is_integer flags || bit_is_set flags 26 || bit_is_set flags 27
 
 -- ---- what stands before an object
 
+-- the bytes of the collector's head before an object (`PyGC_Head`), where its class has one
 abbrev pub head_before : SizePlaces → (flags : ℕ) → ℕ
 head_before p flags = if bit_is_set flags 14 then p.head_size else 0
 
+-- whether two words stand before objects of a class (`_PyType_PreHeaderSize`)
 abbrev pub has_words : WordsBefore → (flags : ℕ) → Bool
 has_words Never flags = false
 has_words Dict flags = bit_is_set flags 4
 has_words DictOrReferences flags = bit_is_set flags 4 || bit_is_set flags 3
 
+-- the bytes of the words before an object
 abbrev pub words_before : SizePlaces → (flags : ℕ) → ℕ
 words_before p flags = if has_words p.words_before flags then 16 else 0
 
@@ -67,6 +72,7 @@ digits Tagged word = if nat_lt (digits_of Tagged word).count 1 then 1 else (digi
 abbrev pub items_by : Integers → (flags word : ℕ) → ℕ
 items_by integers flags word = if is_integer flags then digits integers word else word
 
+-- how many items an object has, by the word that counts them, where it can be read
 abbrev pub items_if : Integers → (flags : ℕ) → Option ℕ → Option ℕ
 items_if integers flags None = None
 items_if integers flags (Some word) = Some (items_by integers flags word)
@@ -79,6 +85,7 @@ items_at l p m class object = if has_count class.flags
 
 -- ---- the size of an object
 
+-- a number, where it is below 2^64
 abbrev pub fits : ℕ → Option ℕ
 fits n = if nat_lt n (2 ^ 64) then Some n else None
 
@@ -88,6 +95,7 @@ size_with p class None = None
 size_with p class (Some items) =
     fits (head_before p class.flags + words_before p class.flags + class.basic + items * class.item)
 
+-- the bytes of an object's own block, where its class can be read
 abbrev pub size_by : Layout → SizePlaces → Memory → Option ClassSize → (object : ℕ) → Option ℕ
 size_by l p m None object = None
 size_by l p m (Some class) object = size_with p class (items_at l p m class object)

@@ -33,6 +33,7 @@ pub record AreTallied (l : Layout) (p : SizePlaces) (m : Memory) (objects : List
 
 -- ---- one more object
 
+-- a class's count with one more object
 abbrev pub with_object : CountedClass → (object : ℕ) → (size more : Option ℕ) → CountedClass
 with_object c object size more = record {
   class = c.class;
@@ -44,6 +45,7 @@ with_object c object size more = record {
   largest = with_large c.largest (large_of object size more);
 }
 
+-- a class of which nothing was counted
 abbrev pub no_objects : (class : ℕ) → CountedClass
 no_objects class = record {
   class = class;
@@ -60,6 +62,7 @@ abbrev pub tally_or_new : (sized : Option ClassSize) → (class : ℕ) → Optio
 tally_or_new sized class None = record { sized = sized; counted = no_objects class }
 tally_or_new sized class (Some tally) = tally
 
+-- a class's tally with one more object
 abbrev pub tally_with : Layout → SizePlaces → Memory → (object : ℕ) → Tally → Tally
 tally_with l p m object t = record {
   sized = t.sized;

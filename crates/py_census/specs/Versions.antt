@@ -12,6 +12,7 @@ use Rattle.py_census.specs.declared.places.SizePlaces.{SizePlaces}
 use Rattle.py_census.specs.declared.places.WordsBefore.{WordsBefore}
 use Rattle.py_census.specs.declared.places.WordsBefore.TheVariants.{Never, Dict, DictOrReferences}
 
+-- where the numbers of sizes stand, of the versions that have these four
 abbrev pub places_with : Option SetClasses → (cached_keys head_size : ℕ) → WordsBefore → KeysForm → SizePlaces
 places_with sets cached_keys head_size words_before keys_form = record {
   count = 16;
@@ -30,6 +31,7 @@ places_with sets cached_keys head_size words_before keys_form = record {
   words_before = words_before;
 }
 
+-- where the numbers of sizes stand, by the minor version of Python 3
 abbrev pub places_of_3 : Option SetClasses → (cached_keys minor : ℕ) → Option SizePlaces
 places_of_3 sets cached_keys minor =
     if nat_eq minor 7 then Some (places_with sets cached_keys 32 Never Slots)

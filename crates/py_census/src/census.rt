@@ -98,7 +98,7 @@ fn counted<P: ProcessMemory>(
 /// one of them has, once and none else, with how many of them it has and how many bytes their own blocks have in all;
 /// most bytes first, then by address. An address that stands twice counts twice.
 ///
-/// There is one such answer alone. What is not in memory is told as not known. The one error is want of memory. At most
+/// There is one such answer alone. What is not in memory is told as not known. The one error is out of memory. At most
 /// 24 reads of each object.
 pub fn count_objects<P: ProcessMemory>(
     alloc: Global,

@@ -19,6 +19,7 @@ use Rattle.py_coroutines.specs.Awaits.{Stop as stop}
 use Rattle.py_coroutines.specs.Awaits.Turn.{To, Before}
 use Rattle.py_coroutines.specs.Kinds.{is_future}
 
+-- whether a text is there and is this name
 abbrev pub is_text : List ℕ → Option (List ℕ) → Bool
 is_text name None = false
 is_text name (Some text) = bytes_eq text name
@@ -27,6 +28,7 @@ is_text name (Some text) = bytes_eq text name
 unfoldable pub is_named : List ℕ → List ℕ → Bool
 is_named chars name = is_text name (until_nul chars)
 
+-- what an object between a coroutine and what it awaits must be, by its class's name
 unfoldable pub holder_named : Holders → List ℕ → Option Held
 holder_named h chars =
     if is_named chars (codes "coroutine_wrapper") then h.coroutine_wrapper
@@ -46,6 +48,7 @@ unfoldable pub fits : Option Held → ℕ → ℕ → Option Held
 fits None flags size = None
 fits (Some held) flags size = if is_builtin flags && nat_eq held.size size then Some held else None
 
+-- what such an object must be, by its class's name; none where the name can't be read
 abbrev pub named_in : Holders → Found (List ℕ) → Option Held
 named_in h (Ok chars) = holder_named h chars
 named_in h (Err f) = None
@@ -87,6 +90,7 @@ unfoldable pub held_at : ClassPlaces → Memory → (at class : ℕ) → Option 
 held_at c m at class None = Ok (Before (stop.Other at class))
 held_at c m at class (Some holder) = word_at m (at + holder.held) >>= wanted_at c m at class holder.wants
 
+-- what an object awaits that is no coroutine: a chain ends before a future; any other is told by its class
 abbrev pub not_future_at : Places → Memory → (at class : ℕ) → Bool → Found Turn
 not_future_at p m at class true = Ok (Before (stop.Future at))
 not_future_at p m at class false = holder_at p.holders p.class m class >>= held_at p.class m at class

@@ -6,6 +6,7 @@ use Rattle.py_coroutines.specs.declared.kinds.Kind.{Kind}
 use Rattle.py_coroutines.specs.declared.kinds.Kind.TheVariants.{Coroutine, Generator, AsyncGenerator}
 use Rattle.py_coroutines.specs.declared.places.AwaitTypes.{AwaitTypes}
 
+-- a coroutine, a generator or an async generator, by the address of the class; none of another class
 unfoldable pub kind_of : AwaitTypes → ℕ → Option Kind
 kind_of types class =
     if nat_eq class 0 then None

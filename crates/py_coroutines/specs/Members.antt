@@ -34,17 +34,21 @@ place_by a Suspended = address_if a
 place_by a Running = address_if a
 place_by a Finished = None
 
+-- where the frame inside a coroutine stands, by the coroutine's record; none of a finished one
 unfoldable pub inside_place : InsidePlaces → ℕ → List ℕ → Option ℕ
 inside_place p a bytes = place_by (a + p.frame) (state_of p.states (u8_in bytes p.state))
 
+-- the frame object that a coroutine's record names; none where it names none
 unfoldable pub apart_place : ApartPlaces → List ℕ → Option ℕ
 apart_place p bytes = if nat_eq (u64_in bytes p.frame) 0 then None else Some (u64_in bytes p.frame)
 
+-- where the frame inside the coroutine at an address stands (from 3.11 on)
 unfoldable pub inside_place_at : InsidePlaces → Memory → ℕ → Found (Option ℕ)
 inside_place_at p m a = do
   bytes ← record_at m a p.size
   Ok (inside_place p a bytes)
 
+-- the frame object of the coroutine at an address (up to 3.10)
 unfoldable pub apart_place_at : ApartPlaces → Memory → ℕ → Found (Option ℕ)
 apart_place_at p m a = do
   bytes ← record_at m a p.size

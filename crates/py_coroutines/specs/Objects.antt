@@ -29,6 +29,7 @@ top_at m (Some top) = do
   next ← word_at m top
   Ok (To next)
 
+-- what a suspended coroutine awaits: what is on top of its stack, or nothing where it only yields
 abbrev pub if_awaits : Memory → Option ℕ → Bool → Found Turn
 if_awaits m top true = top_at m top
 if_awaits m top false = Ok (Last stop.Yielding)
@@ -66,14 +67,17 @@ abbrev pub member_by : Found Turn → Turn
 member_by (Ok turn) = turn
 member_by (Err f) = Last (stop.Lost f)
 
+-- what stands at an address that is no coroutine: a chain ends before it where that can't be read
 abbrev pub other_by : Found Turn → Turn
 other_by (Ok turn) = turn
 other_by (Err f) = Before (stop.Lost f)
 
+-- what stands at an address, by whether it is a coroutine or another object
 abbrev pub by_kind : Places → Memory → ℕ → ℕ → Option Kind → Turn
 by_kind p m a class (Some kind) = member_by (coroutine_at p m a)
 by_kind p m a class None = other_by (other_at p m a class)
 
+-- what stands at an address, by its class; a chain ends before it where that can't be read
 abbrev pub by_class : Places → Memory → ℕ → Found ℕ → Turn
 by_class p m a (Ok class) = by_kind p m a class (kind_of p.types class)
 by_class p m a (Err f) = Before (stop.Lost f)

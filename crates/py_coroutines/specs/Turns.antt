@@ -22,6 +22,7 @@ use Rattle.py_coroutines.specs.Awaits.{End as end}
 use Rattle.py_coroutines.specs.Awaits.{Stop as stop}
 use Rattle.py_coroutines.specs.Awaits.{Turn as turn}
 
+-- what ends a chain by itself, as the code has it
 abbrev pub stop_of : Stop → known.Stop
 stop_of (Future a) = stop.Future a
 stop_of Yielding = stop.Yielding
@@ -32,24 +33,28 @@ stop_of NoTop = stop.NoTop
 stop_of (Other a class) = stop.Other a class
 stop_of (Unreadable a n) = stop.Lost (Missing a n)
 
+-- how a chain ends, as the code has it
 abbrev pub end_of : AwaitEnd → known.End
 end_of (Stops why) = end.Stops (stop_of why)
 end_of (Cycle a) = end.Cycle a
 end_of (Cut a) = end.Cut a
 
+-- what stands at an address, as the code has it
 abbrev pub turn_of : Turn → known.Turn
 turn_of (To n) = turn.To n
 turn_of (Last why) = turn.Last (stop_of why)
 turn_of (Before why) = turn.Before (stop_of why)
 
+-- a reader's result with what stands at an address
 abbrev pub turn_of_result : {E : Type 0} → Result Turn E → Result known.Turn E
 turn_of_result (Ok turn) = Ok (turn_of turn)
 turn_of_result (Err e) = Err e
 
+-- a chain, as the code has it
 abbrev pub chain_of : Awaits → Chain
 chain_of c = record { members = c.members.items; end = end_of c.end }
 
--- a range that was not read ends a chain; want of memory is handed on
+-- a range that was not read ends a chain; out of memory is handed on
 abbrev pub IsLost : ReadFault → Result Stop AwaitError → Type 0
 IsLost (fault.Unreadable a n) result = result ≡ Ok (Unreadable a n)
 IsLost fault.OutOfMemory result = (e : AwaitError) × (result ≡ Err e)

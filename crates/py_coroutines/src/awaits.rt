@@ -67,7 +67,7 @@ fn follow<P: ProcessMemory>(
 
 /// The whole chain of what awaits what from an object on, at most `limit` members of it: each member awaits the one
 /// after it, none is left out and none is there twice; and how the chain ends. There is one such chain alone, and it is
-/// the answer. The one error is want of memory. At most seven reads for each member, and seven more.
+/// the answer. The one error is out of memory. At most seven reads for each member, and seven more.
 pub fn read_awaits<P: ProcessMemory>(
     alloc: Global,
     process: &mut P,

@@ -78,7 +78,7 @@ fn fits(holder: Option<Held>, flags: u64, size: u64) -> Option<Held>
     }
 }
 
-/// None, where a name is not in memory; want of memory is handed on.
+/// None, where a name is not in memory; out of memory is handed on.
 fn unnamed(error: ReadFault) -> Result<Option<Held>, ReadFault>
     ensures { IsUnnamed error result }
 {

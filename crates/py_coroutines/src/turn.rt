@@ -57,7 +57,7 @@ pub enum Turn {
     Before(Stop),
 }
 
-/// The end at a range that was not read; want of memory is none.
+/// The end at a range that was not read; out of memory is none.
 fn lost(error: ReadFault) -> Result<Stop, AwaitError>
     ensures { IsLost error result }
 {

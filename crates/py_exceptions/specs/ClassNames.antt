@@ -15,6 +15,7 @@ use Rattle.py_exceptions.specs.Entries.{entry_at, found_text_at}
 use Rattle.py_exceptions.specs.Faults.{found_or_none, known}
 use Rattle.py_exceptions.specs.Texts.{text_or_none_at}
 
+-- the characters of bytes that are UTF-8; none where they aren't
 abbrev pub text_if : Option (List ℕ) → Option (List ℕ)
 text_if None = None
 text_if (Some bytes) = if is_utf8 bytes then Some (chars bytes) else None
@@ -23,6 +24,7 @@ text_if (Some bytes) = if is_utf8 bytes then Some (chars bytes) else None
 abbrev pub class_name : List ℕ → Option (List ℕ)
 class_name bytes = text_if (until_nul bytes)
 
+-- a class's whole name as C has it, where there is one
 abbrev pub whole_of : Option (List ℕ) → Option ClassName
 whole_of None = None
 whole_of (Some name) = Some (Whole name)
@@ -45,20 +47,25 @@ module_at l p m class = do
   found ← entry_at l m dict (codes "__module__")
   found_text_at l m found
 
+-- the name of a class of the heap by its parts: its module's, and its qualified name
 abbrev pub heap_name : Option (List ℕ) → Option (List ℕ) → Option ClassName
 heap_name module_name name = Some (Parts module_name name)
 
+-- the name of the class of the heap at an address; a part that can't be read is none
 unfoldable pub heap_name_at : Layout → ClassPlaces → Memory → ℕ → Option ClassName
 heap_name_at l p m class =
     heap_name (found_or_none (module_at l p m class)) (found_or_none (qualname_at l p m class))
 
+-- whether the flags of a class say that it is one of the heap (bit 9, `Py_TPFLAGS_HEAPTYPE`)
 abbrev pub is_heap : ℕ → Bool
 is_heap flags = nat_eq (flags / 2 ^ 9 % 2) 1
 
+-- the name of a class, by whether it is one of the heap
 abbrev pub class_by_kind : Layout → ClassPlaces → Memory → ℕ → Bool → Option ClassName
 class_by_kind l p m class true = heap_name_at l p m class
 class_by_kind l p m class false = found_or_none (whole_at p m class)
 
+-- the name of a class, by its flags; none where they can't be read
 abbrev pub class_by_flags : Layout → ClassPlaces → Memory → ℕ → Option ℕ → Option ClassName
 class_by_flags l p m class None = None
 class_by_flags l p m class (Some flags) = class_by_kind l p m class (is_heap flags)

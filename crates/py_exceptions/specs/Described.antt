@@ -23,6 +23,7 @@ use Rattle.py_exceptions.specs.declared.name.ClassPlaces.{ClassPlaces}
 use Rattle.py_exceptions.specs.declared.rule.FieldPlaces.{FieldPlaces}
 use Rattle.py_exceptions.specs.Places.{IsSoundTraceback}
 
+-- where a class has its flags, names, dict, base and text function (`PyTypeObject`, `PyHeapTypeObject`)
 abbrev pub class_of : Layout → KlassRecord → HeapTypeRecord → ClassPlaces
 class_of l klass heap = record {
   flags = l.klass.flags;
@@ -33,10 +34,12 @@ class_of l klass heap = record {
   to_str = klass.to_str;
 }
 
+-- where a frame object names the frame that it stands for (`f_frame`, from 3.11 on); none where it is the frame
 abbrev pub inner_of : Option FrameObjectRecord → Option ℕ
 inner_of None = None
 inner_of (Some at) = Some at.frame
 
+-- where an entry of a traceback has its parts (`PyTracebackObject`)
 abbrev pub traceback_of : TracebackRecord → Option ℕ → TracebackPlaces
 traceback_of at inner = record {
   size = at.size;
@@ -47,6 +50,7 @@ traceback_of at inner = record {
   inner = inner;
 }
 
+-- where a thread names the traceback of what it raises (`curexc_traceback`), in versions that have it
 abbrev pub raised_traceback_of : Option RaisedPartsRecord → Option ℕ
 raised_traceback_of None = None
 raised_traceback_of (Some at) = Some at.traceback
@@ -65,9 +69,11 @@ fields_by (Some system) (Some imports) (Some syntaxes) group unicode = Some (rec
   unicode = unicode;
 })
 
+-- fields of some classes' own, by the records of a version
 abbrev pub fields_of : ExceptionRecords → Option FieldPlaces
 fields_of r = fields_by r.os_error r.import_error r.syntax_error r.exception_group r.unicode_error
 
+-- the places of all parts, where the groups that are needed are described
 abbrev pub described_by : Layout → Records → Places → Option KlassRecord → Option HeapTypeRecord
     → Option TracebackRecord → Option FieldPlaces → Option Described
 described_by l r thread None heap traceback fields = None
@@ -91,6 +97,7 @@ abbrev pub AreWith : Layout → Records → Places → Option Described → Type
 AreWith l r thread None = (d : Described) → with_thread l r thread ≡ Some d → IsSoundTraceback d.traceback → ⊥
 AreWith l r thread (Some d) = (with_thread l r thread ≡ Some d) × IsSoundTraceback d.traceback
 
+-- these are the places, where those of threads are described; else there are none
 abbrev pub AreBy : Layout → Records → Option Places → Option Described → Type 0
 AreBy l r None described = described ≡ None
 AreBy l r (Some thread) described = AreWith l r thread described

@@ -14,12 +14,14 @@ use Rattle.py_exceptions.specs.Notes.{NotesShown, notes_at, notes_shown}
 use Rattle.py_exceptions.specs.Said.{SaidShown, said_at, said_shown}
 use Rattle.py_exceptions.specs.Tracebacks.{TracebackShown, traceback_at, traceback_shown}
 
+-- what is told of an exception: its class's name, what it says, its traceback and its notes
 pub record ExceptionShown : Type 0 where
   pub class : Option ClassName
   pub said : SaidShown
   pub traceback : TracebackShown
   pub notes : NotesShown
 
+-- what is told of an exception, as the code has it
 abbrev pub exception_shown : ToldException → ExceptionShown
 exception_shown t = record {
   class = t.class;
@@ -28,10 +30,12 @@ exception_shown t = record {
   notes = notes_shown t.notes;
 }
 
+-- the same, where something is told
 abbrev pub told_if : Option ToldException → Option ExceptionShown
 told_if None = None
 told_if (Some t) = Some (exception_shown t)
 
+-- what is told of an exception, from its parts
 abbrev pub exception_with : Option ClassName → SaidShown → TracebackShown → NotesShown → ExceptionShown
 exception_with class said traceback notes =
     record { class = class; said = said; traceback = traceback; notes = notes }
@@ -42,6 +46,7 @@ exception_at l d m parts at =
     exception_with (class_at l d.class m parts.class) (said_at l d.class d.fields m parts at)
     (traceback_at l d.traceback m parts.traceback) (notes_at l m parts.dict)
 
+-- what is told of an object that was met, by what it is; none where it is no exception or can't be read
 abbrev pub told_by : Layout → Described → Memory → ℕ → What → Option ExceptionShown
 told_by l d m at (what.Exception parts members) = Some (exception_at l d m parts at)
 told_by l d m at what.Other = None

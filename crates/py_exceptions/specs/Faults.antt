@@ -16,11 +16,12 @@ abbrev pub found_or_none : {T : Type 0} → Found (Option T) → Option T
 found_or_none (Ok x) = x
 found_or_none (Err f) = None
 
--- none where something can't be read, and want of memory as an error
+-- none where something can't be read, and out of memory as an error
 abbrev pub NoneBy : {T : Type 0} → Option Fault → Result (Option T) ExceptionsError → Type 0
 NoneBy None result = result ≡ Err OutOfMemory
 NoneBy (Some f) result = result ≡ Ok None
 
+-- a reader's result is what another one read, and none where that failed; out of memory is handed on
 abbrev pub IsOrNone : {T : Type 0} → Result (Option T) NamesError → Result (Option T) ExceptionsError → Type 0
 IsOrNone (Ok x) result = result ≡ Ok x
 IsOrNone (Err e) result = NoneBy (names_fault e) result

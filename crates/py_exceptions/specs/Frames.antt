@@ -29,6 +29,7 @@ point_of p bytes = record {
   line = cast_signed w32 (u32_in bytes p.line);
 }
 
+-- what the record of the entry at an address says
 unfoldable pub point_at : TracebackPlaces → Memory → ℕ → Found Point
 point_at p m a = do
   bytes ← record_at m a p.size
@@ -58,6 +59,7 @@ is_lazy point = int_lt point.line (pos 0)
 unfoldable pub line_found_at : Layout → Memory → MemberAt → Point → Found ℤ
 line_found_at l m r point = if is_lazy point then lazy_line_at l m r point else Ok point.line
 
+-- what an entry shows, from its parts
 abbrev pub called_with : Option (List ℕ) → Option (List ℕ) → ℤ → CalledFrame
 called_with function filename line = record { function = function; filename = filename; line = line }
 
@@ -83,11 +85,13 @@ frame_found_at l p m a = do
   called ← there_at l p m point
   Ok (Some called)
 
+-- what an entry shows is what was read of its frame, none where that failed; out of memory is handed on
 abbrev pub IsFrameOrNone : Result (Option CalledFrame) StackError → Result (Option CalledFrame) ExceptionsError
     → Type 0
 IsFrameOrNone (Ok x) result = result ≡ Ok x
 IsFrameOrNone (Err e) result = NoneBy (stack_fault e) result
 
+-- an entry at an address, with what it shows
 abbrev pub entry_with : ℕ → Option CalledFrame → Entry
 entry_with a frame = record { addr = a; frame = frame }
 

@@ -37,6 +37,7 @@ abbrev pub last_name : RaisedPlaces → LastName
 last_name (places.Exception at) = names.Exc
 last_name (places.Parts klass value) = names.Value
 
+-- the name in `sys` under which the last exception stands
 abbrev pub key_of : LastName → List ℕ
 key_of names.Exc = codes "last_exc"
 key_of names.Value = codes "last_value"
@@ -56,6 +57,7 @@ sys_value_at l m interpreter name = do
   found ← entry_at l m modules (codes "sys")
   attribute_at l m name found
 
+-- what was found in a dict, where the layout has dicts; else the fault that it lacks them
 abbrev pub value_by : Dicts → Found (Option ℕ) → Found (Option ℕ)
 value_by Absent found = Err NoDicts
 value_by General found = found
@@ -65,6 +67,7 @@ value_by Compact found = found
 unfoldable pub value_at : Layout → Memory → ℕ → List ℕ → Found (Option ℕ)
 value_at l m interpreter name = value_by l.dicts (sys_value_at l m interpreter name)
 
+-- what `sys` has under a name, if anything
 unfoldable pub set_at : Layout → Memory → ℕ → List ℕ → Found (Option (Option ℕ))
 set_at l m interpreter name = do
   found ← value_at l m interpreter name
@@ -82,6 +85,7 @@ pub data FoundShown : Type 0 where
   Exception : (address : ℕ) → ToldShown → FoundShown
   Unreadable : FoundShown
 
+-- under which name `sys` has the last exception, and what is found there
 pub record LastShown : Type 0 where
   pub name : LastName
   pub found : FoundShown
@@ -105,6 +109,7 @@ abbrev pub may_be : List Met → Bool
 may_be [] = false
 may_be (x ∷ xs) = not (is_other x.what)
 
+-- the object at an address, with all that was met from there on; nothing where it is known to be no exception
 abbrev pub found_of : ℕ → List Met → List (Option ExceptionShown) → FoundShown
 found_of a met told = if may_be met then Exception a (alone a met told) else Nothing
 
@@ -135,10 +140,12 @@ last_reads = 120748040
 
 -- ---- as it is read
 
+-- what was found, as the code has it
 abbrev pub found_shown : LastFound → FoundShown
 found_shown founds.Nothing = Nothing
 found_shown (founds.Exception a told) = Exception a (told_shown told)
 found_shown founds.Unreadable = Unreadable
 
+-- the last exception, as the code has it
 abbrev pub last_shown : LastException → LastShown
 last_shown t = record { name = t.name; found = found_shown t.found }

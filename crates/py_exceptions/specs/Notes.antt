@@ -19,11 +19,13 @@ pub data NotesShown : Type 0 where
   Listed : ValuesShown → NotesShown
   Unreadable : NotesShown
 
+-- notes, as the code has them
 abbrev pub notes_shown : read.Notes → NotesShown
 notes_shown reads.Without = NotesShown.Without
 notes_shown (reads.Listed v) = NotesShown.Listed (values_shown v)
 notes_shown reads.Unreadable = NotesShown.Unreadable
 
+-- notes by the values of their list; unreadable where these can't be read
 abbrev pub notes_of : Option ValuesShown → NotesShown
 notes_of None = NotesShown.Unreadable
 notes_of (Some v) = NotesShown.Listed v
@@ -35,11 +37,13 @@ sequence_of flags =
     else if nat_eq (flags / 2 ^ 26 % 2) 1 then Some sequence.Tuple
     else None
 
+-- whether the object at an address is a list or a tuple, by the flags of its type; none of another one
 unfoldable pub sequence_found_at : Layout → Memory → ℕ → Found (Option Sequence)
 sequence_found_at l m a = do
   t ← type_at l m a
   Ok (sequence_of t.flags)
 
+-- the notes that a list or a tuple at an address has; unreadable where the object isn't known to be either
 abbrev pub list_by : Layout → Memory → ℕ → Option Sequence → NotesShown
 list_by l m a None = NotesShown.Unreadable
 list_by l m a (Some s) = notes_of (values_at l m s a)
@@ -48,6 +52,7 @@ list_by l m a (Some s) = notes_of (values_at l m s a)
 unfoldable pub list_at : Layout → Memory → ℕ → NotesShown
 list_at l m a = list_by l m a (found_or_none (sequence_found_at l m a))
 
+-- what a dict has under `__notes__`, if anything
 unfoldable pub noted_at : Layout → Memory → ℕ → Found (Option (Option ℕ))
 noted_at l m dict = do
   found ← entry_at l m dict (codes "__notes__")
@@ -58,6 +63,7 @@ abbrev pub found_by : Layout → Memory → Option ℕ → NotesShown
 found_by l m None = NotesShown.Without
 found_by l m (Some a) = list_at l m a
 
+-- the notes by what was found in the dict; unreadable where that isn't known
 abbrev pub notes_by : Layout → Memory → Option (Option ℕ) → NotesShown
 notes_by l m None = NotesShown.Unreadable
 notes_by l m (Some found) = found_by l m found

@@ -6,9 +6,11 @@ use Rattle.process_memory.specs.Memory.{Found, Memory, ◌>>=◌, word_at}
 use Rattle.py_exceptions.specs.declared.name.ClassPlaces.{ClassPlaces}
 use Rattle.py_exceptions.specs.Faults.{found_or_none}
 
+-- a class, where the next one has another function; else what is found from that one on
 abbrev pub unless_other : ℕ → ℕ → ℕ → Found (Option ℕ) → Found (Option ℕ)
 unless_other class own other rest = if nat_eq other own then rest else Ok (Some class)
 
+-- a class, where it is based on none or on one with another function; else what is found from there on
 abbrev pub owner_by_base : ClassPlaces → Memory → ℕ → ℕ → ℕ → Found (Option ℕ) → Found (Option ℕ)
 owner_by_base p m class own next rest =
     if nat_eq next 0 then Ok (Some class)
@@ -20,6 +22,7 @@ owner_from p m class own zero = Ok (Some class)
 owner_from p m class own (suc left) =
     word_at m (class + p.base) >>= (λ next. owner_by_base p m class own next (owner_from p m next own left))
 
+-- the class that owns the text function of a class (`tp_str`)
 unfoldable pub owner_found_at : ClassPlaces → Memory → ℕ → Found (Option ℕ)
 owner_found_at p m class = word_at m (class + p.to_str) >>= (λ own. owner_from p m class own 64)
 

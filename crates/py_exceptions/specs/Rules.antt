@@ -38,21 +38,26 @@ kind_named name =
     else if bytes_eq (encode_utf8_all name) (codes "UnicodeTranslateError") then kind.Translate
     else kind.Own
 
+-- the rule that a class owns, by its name; that of a class of the heap is its own
 abbrev pub kind_of : ClassName → Kind
 kind_of (Whole name) = kind_named name
 kind_of (Parts module_name name) = kind.Own
 
+-- what the exception at an address tells as an `OSError`: number, text and both file names
 unfoldable pub system_at : Layout → OsErrorRecord → Memory → ℕ → Rule
 system_at l p m at =
     rule.System (field_at l m at p.errno) (field_at l m at p.strerror) (field_at l m at p.filename)
     (field_at l m at p.filename2)
 
+-- what the exception at an address tells as an `ImportError`: its message
 unfoldable pub import_at : Layout → ImportErrorRecord → Memory → ℕ → Rule
 import_at l p m at = rule.Import (field_at l m at p.msg)
 
+-- what the exception at an address tells as a `SyntaxError`: its message, the file's name and the line
 unfoldable pub syntax_at : Layout → SyntaxErrorRecord → Memory → ℕ → Rule
 syntax_at l p m at = rule.Syntax (field_at l m at p.msg) (field_at l m at p.filename) (field_at l m at p.line)
 
+-- what the exception at an address tells as a group: its message, where groups are described
 unfoldable pub group_at : Layout → Option ExceptionGroupRecord → Memory → ClassName → ℕ → Rule
 group_at l None m class at = rule.Own class
 group_at l (Some p) m class at = rule.Group (field_at l m at p.msg)
@@ -85,10 +90,12 @@ rule_by_kind l p m class at kind.Decode = decode_at l p.unicode m class at
 rule_by_kind l p m class at kind.Translate = translate_at l p.unicode m class at
 rule_by_kind l p m class at kind.Own = rule.Own class
 
+-- what an exception tells by the rule of the class of this name; unreadable without a name
 abbrev pub rule_by_class : Layout → FieldPlaces → Memory → ℕ → Option ClassName → Rule
 rule_by_class l p m at None = rule.Unreadable
 rule_by_class l p m at (Some class) = rule_by_kind l p m class at (kind_of class)
 
+-- what an exception tells by the rule of the class that owns it; unreadable where that isn't known
 abbrev pub rule_by_owner : Layout → ClassPlaces → FieldPlaces → Memory → ℕ → Option ℕ → Rule
 rule_by_owner l classes p m at None = rule.Unreadable
 rule_by_owner l classes p m at (Some owner) = rule_by_class l p m at (class_at l classes m owner)

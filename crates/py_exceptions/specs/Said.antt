@@ -12,13 +12,16 @@ use Rattle.py_exceptions.specs.declared.said.Said.{Said}
 use Rattle.py_exceptions.specs.Rules.{rule_at}
 use Rattle.py_exceptions.specs.ValueLists.{ValuesShown, shown_if, values_at}
 
+-- what an exception says: the rule by which it is told as a text, and its arguments
 pub record SaidShown : Type 0 where
   pub rule : Rule
   pub arguments : Option ValuesShown
 
+-- what an exception says, as the code has it
 abbrev pub said_shown : Said → SaidShown
 said_shown s = record { rule = s.rule; arguments = shown_if s.arguments }
 
+-- what an exception says, from its parts
 abbrev pub said_with : Rule → Option ValuesShown → SaidShown
 said_with rule arguments = record { rule = rule; arguments = arguments }
 

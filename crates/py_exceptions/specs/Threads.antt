@@ -16,18 +16,22 @@ use Rattle.py_exceptions.specs.Faults.{known}
 use Rattle.py_exceptions.specs.Tracebacks.{TracebackShown, traceback_at, traceback_shown}
 use Rattle.py_exceptions.specs.Values.{value_told_at}
 
+-- a traceback, as the code has it, where there is one
 abbrev pub traceback_if : Option Traceback → Option TracebackShown
 traceback_if None = None
 traceback_if (Some t) = Some (traceback_shown t)
 
+-- the parts of what is raised up to 3.11: the class's name, the value and the traceback
 pub record PartsShown : Type 0 where
   pub class : Option ClassName
   pub value : Option Value
   pub traceback : Option TracebackShown
 
+-- the parts of what is raised, as the code has them
 abbrev pub raised_parts_shown : RaisedParts → PartsShown
 raised_parts_shown r = record { class = r.class; value = r.value; traceback = traceback_if r.traceback }
 
+-- the same, where there are some
 abbrev pub parts_if : Option RaisedParts → Option PartsShown
 parts_if None = None
 parts_if (Some r) = Some (raised_parts_shown r)
@@ -42,6 +46,7 @@ abbrev pub traceback_told_by : Layout → Described → Memory → ℕ → Optio
 traceback_told_by l d m thread None = None
 traceback_told_by l d m thread (Some place) = head_told_by l d m (known (word_at m (thread + place)))
 
+-- the parts of what is raised, one by one
 abbrev pub parts_with : Option ClassName → Option Value → Option TracebackShown → PartsShown
 parts_with class value traceback = record { class = class; value = value; traceback = traceback }
 
@@ -64,6 +69,7 @@ pub record ToldShown : Type 0 where
   pub raised : Option PartsShown
   pub told : List (Option ExceptionShown)
 
+-- a thread as it is told, as the code has it
 abbrev pub told_shown : ToldThread → ToldShown
 told_shown t = record {
   thread = thread_of t.thread;

@@ -13,16 +13,19 @@ use Rattle.py_exceptions.specs.declared.value.Value.TheVariants as value
 use Rattle.py_exceptions.specs.Frames.{entry_at}
 use Rattle.py_exceptions.specs.Values.{value_told_at}
 
+-- a traceback: its first entries, how many are left out, its last ones, and how it ends
 pub record TracebackShown : Type 0 where
   pub first : List Entry
   pub left_out : ℕ
   pub last : List Entry
   pub end : End
 
+-- a traceback, as the code has it
 abbrev pub traceback_shown : Traceback → TracebackShown
 traceback_shown t =
     record { first = t.first.items; left_out = t.left_out; last = t.last.items; end = end_of t.end }
 
+-- the entries at some addresses, in order
 abbrev pub entries_at : Layout → TracebackPlaces → Memory → List ℕ → List Entry
 entries_at l p m addresses = map (entry_at l p m) addresses
 
@@ -30,6 +33,7 @@ entries_at l p m addresses = map (entry_at l p m) addresses
 abbrev pub first_count : ℕ → ℕ
 first_count n = min n 128
 
+-- a traceback, from its parts
 abbrev pub shown_with : List Entry → ℕ → List Entry → End → TracebackShown
 shown_with first left_out last end = record { first = first; left_out = left_out; last = last; end = end }
 
@@ -42,6 +46,7 @@ told_by l p m members end count left_out =
 abbrev pub left_of : ℕ → ℕ
 left_of rest = rest - first_count rest
 
+-- the traceback of the entries at these addresses, of which the first 128 and the last 128 are told
 unfoldable pub told_in : Layout → TracebackPlaces → Memory → List ℕ → End → TracebackShown
 told_in l p m members end =
     told_by l p m members end (first_count (length members)) (left_of (length members - first_count (length members)))
@@ -52,6 +57,7 @@ start_of head (Some value.Nothing) = 0
 start_of head (Some _) = head
 start_of head None = head
 
+-- the traceback of a chain of entries
 abbrev pub told_of : Layout → TracebackPlaces → Memory → Chain → TracebackShown
 told_of l p m chain = told_in l p m chain.members chain.end
 

@@ -290,7 +290,7 @@ fn read_found<P: ProcessMemory>(
     Ok(Some(called))
 }
 
-/// None, where a frame can't be read; want of memory is handed on.
+/// None, where a frame can't be read; out of memory is handed on.
 fn frame_or_none(
     found: Result<Option<CalledFrame>, StackError>,
 ) -> Result<Option<CalledFrame>, ExceptionsError>

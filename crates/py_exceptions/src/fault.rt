@@ -9,7 +9,7 @@ use py_builtins::ObjectError;
 use py_names::NamesError;
 use thread_exceptions::ExceptionsError;
 
-/// None, where something can't be read; want of memory is handed on.
+/// None, where something can't be read; out of memory is handed on.
 pub(crate) fn or_none<T: Drop>(
     found: Result<Option<T>, NamesError>,
 ) -> Result<Option<T>, ExceptionsError>

@@ -292,7 +292,7 @@ fn tell_last<P: ProcessMemory>(
 ///
 /// There is none where `sys` has nothing there, or an object that is known to be no exception, as `None`, and where the
 /// interpreter has no such module. That it can't be read is told. There is one such answer alone, and it is the answer. The
-/// one error is want of memory. At most 32,776 reads for what is found, 4,096 slots of a dict being looked at, and 117,886
+/// one error is out of memory. At most 32,776 reads for what is found, 4,096 slots of a dict being looked at, and 117,886
 /// for each of at most 1,024 objects.
 pub fn read_last<P: ProcessMemory>(
     alloc: Global,

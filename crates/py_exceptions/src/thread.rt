@@ -165,7 +165,7 @@ fn tell<P: ProcessMemory>(
 /// and of each exception that this leads to, once, the name of its class, what it says, its traceback and its notes.
 ///
 /// What can't be read costs what it breaks: each part has a mark of its own. There is one such answer alone, and it is
-/// the answer. The one error is want of memory. At most 370,201 reads for what is found from a thread on, and 117,623
+/// the answer. The one error is out of memory. At most 370,201 reads for what is found from a thread on, and 117,623
 /// for each of at most 1,024 exceptions.
 pub fn read_exceptions<P: ProcessMemory>(
     alloc: Global,

@@ -15,6 +15,7 @@ use Rattle.py_fields.specs.Spelling.{is_metadata}
 abbrev pub Front : Type 0
 Front = Option (ℕ × List ℕ)
 
+-- a number that a text begins with, and the bytes behind it
 abbrev pub front_of : Option (ℕ × Bor (List ℕ)) → Front
 front_of None = None
 front_of (Some x) = Some (x.0, x.1.now)
@@ -34,10 +35,12 @@ high_minor tens ones (dot ∷ rest) = if tens == 49 && is_in_range 48 52 ones &&
     else None
 high_minor tens ones [] = None
 
+-- the first where there is one, else the second
 abbrev pub or_front : Front → Front → Front
 or_front (Some x) other = Some x
 or_front None other = other
 
+-- a minor version of two digits, or else of one, that a text begins with
 abbrev pub minor_front : List ℕ → Front
 minor_front (a ∷ b ∷ rest) = or_front (low_minor a b rest) (high_minor a b rest)
 minor_front _ = None
@@ -47,6 +50,7 @@ abbrev pub digit_front : List ℕ → Front
 digit_front (n ∷ rest) = if is_ascii_digit n then Some (n - 48, rest) else None
 digit_front [] = None
 
+-- a number of exactly two digits; none where a third one follows
 abbrev pub two_digits : ℕ → List ℕ → Front → Front
 two_digits tens rest None = Some (tens, rest)
 two_digits tens rest (Some ones) = if is_none (digit_front ones.1) then Some (tens * 10 + ones.0, ones.1) else None
@@ -89,6 +93,7 @@ abbrev pub are_runs : List ℕ → Bool
 are_runs [] = true
 are_runs (c ∷ rest) = are_runs_after true (c ∷ rest)
 
+-- metadata that is made of runs of letters, digits and dashes, and what follows it
 abbrev pub runs_front : List ℕ → List ℕ → Option (Option (List ℕ) × List ℕ)
 runs_front metadata rest = if are_runs metadata then Some (Some metadata, rest) else None
 
@@ -99,14 +104,17 @@ metadata_front (plus ∷ rest) =
     if plus == 43 then runs_front (take (metadata_len rest) rest) (drop (metadata_len rest) rest)
     else Some (None, plus ∷ rest)
 
+-- the bytes of a borrowed text, where there is one
 abbrev pub borrowed : Option (Bor (List ℕ)) → Option (List ℕ)
 borrowed None = None
 borrowed (Some x) = Some x.now
 
+-- metadata and the rest of a text, with their bytes
 abbrev pub metadata_of : Option (Option (Bor (List ℕ)) × Bor (List ℕ)) → Option (Option (List ℕ) × List ℕ)
 metadata_of None = None
 metadata_of (Some x) = Some (borrowed x.0, x.1.now)
 
+-- whether a byte stands there that is no line feed
 abbrev pub is_no_newline : Option ℕ → Bool
 is_no_newline None = false
 is_no_newline (Some c) = not (c == 10)
@@ -126,10 +134,12 @@ version_by major minor patch flags metadata = record {
   build_metadata = metadata;
 }
 
+-- the version that these parts are, where a text of a version may end here
 abbrev pub spelled_last : ℕ → ℕ → ℕ → List ℕ → Option (List ℕ) × List ℕ → Option Version
 spelled_last major minor patch flags end = if has_end end.1 then Some (version_by major minor patch flags end.0)
     else None
 
+-- the version that these numbers are, with the flags and the metadata that follow
 unfoldable pub spelled_after : ℕ → ℕ → ℕ → List ℕ → Option Version
 spelled_after major minor patch rest =
     option_and_then (spelled_last major minor patch (take (flags_len rest) rest))

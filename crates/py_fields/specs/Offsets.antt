@@ -11,6 +11,7 @@ use Rattle.py_fields.specs.declared.version.Version.{Version}
 abbrev pub head_of_3 : ℕ → ℕ
 head_of_3 minor = if is_in_range 8 10 minor then 32 else (if is_in_range 11 12 minor then 40 else 24)
 
+-- where `_PyRuntime` has the newest interpreter's address, in bytes (`_PyRuntimeState.interpreters.head`)
 unfoldable pub interp_head_offset : Version → ℕ
 interp_head_offset v = if v.major == 3 then head_of_3 v.minor else 24
 
@@ -32,5 +33,6 @@ current_of_3 X86_64 v = by_minor (if nat_le v.patch 3 then 1392 else 1480)
 current_of_3 Aarch64 v = by_minor (if nat_le v.patch 3 then 1408 else 1496) 1384 584 592 v.minor
 current_of_3 Other v = None
 
+-- where `_PyRuntime` has the current thread's address, in bytes, up to 3.11 (`gilstate.tstate_current`)
 unfoldable pub tstate_current_offset : Machine → Version → Option ℕ
 tstate_current_offset machine v = if v.major == 3 then current_of_3 machine v else None

@@ -52,9 +52,11 @@ abbrev pub optional_place : Option ℕ → ℕ → Place
 optional_place None width = (0, 0)
 optional_place (Some at) width = (at, width)
 
+-- the fields of the interpreter's record, each with its width in bytes
 unfoldable pub interpreter_places : InterpreterAt → List Place
 interpreter_places i = (i.threads, 8) ∷ (i.modules, 8) ∷ optional_place i.gil 8 ∷ []
 
+-- the fields of a thread's record, each with its width in bytes
 unfoldable pub thread_places : ThreadAt → List Place
 thread_places t = (t.next, 8) ∷ (t.interp, 8) ∷ (t.id, 8) ∷ (t.frame, 8) ∷ optional_place t.native_id 8 ∷ []
 
@@ -64,9 +66,11 @@ instr_width Bytes = 4
 instr_width Units = 4
 instr_width Pointer = 8
 
+-- the fields of a frame's record, each with its width in bytes
 unfoldable pub frame_places : Lasti → FrameAt → List Place
 frame_places lasti f = (f.code, 8) ∷ (f.back, 8) ∷ (f.instr, instr_width lasti) ∷ optional_place f.entry 1 ∷ []
 
+-- the fields of a code object, each with its width in bytes
 unfoldable pub code_places : CodeAt → List Place
 code_places c = (c.argcount, 4) ∷ (c.nlocals, 4) ∷ (c.first_line, 4) ∷ (c.filename, 8) ∷ (c.name, 8) ∷ (c.table, 8)
     ∷ (c.varnames, 8) ∷ []
@@ -75,6 +79,7 @@ code_places c = (c.argcount, 4) ∷ (c.nlocals, 4) ∷ (c.first_line, 4) ∷ (c.
 unfoldable pub string_head : StringAt → List Place
 string_head s = (s.length, 8) ∷ optional_place s.state 4 ∷ []
 
+-- the fields of a text's record, each with its width in bytes
 unfoldable pub string_places : StringAt → List Place
 string_places s = (s.length, 8) ∷ optional_place s.state 4 ∷ optional_place s.pointer 8 ∷ []
 
@@ -82,38 +87,50 @@ string_places s = (s.length, 8) ∷ optional_place s.state 4 ∷ optional_place 
 unfoldable pub state_bits : StringAt → List Place
 state_bits s = optional_place s.kind_shift 3 ∷ optional_place s.compact_bit 1 ∷ optional_place s.ascii_bit 1 ∷ []
 
+-- the fields of a bytes object, each with its width in bytes
 unfoldable pub bytes_places : BytesAt → List Place
 bytes_places b = (b.length, 8) ∷ []
 
+-- the fields of a tuple, each with its width in bytes
 unfoldable pub tuple_places : TupleAt → List Place
 tuple_places t = (t.count, 8) ∷ []
 
+-- the fields of a list, each with its width in bytes
 unfoldable pub list_places : ListAt → List Place
 list_places l = (l.count, 8) ∷ (l.items, 8) ∷ []
 
+-- the fields of the head of every object, each with its width in bytes
 unfoldable pub object_places : ObjectAt → List Place
 object_places o = (o.klass, 8) ∷ []
 
+-- the fields of a type's record, each with its width in bytes
 unfoldable pub klass_places : KlassAt → List Place
 klass_places k = (k.name, 8) ∷ (k.flags, 8) ∷ (k.dict_offset, 8) ∷ []
 
+-- the fields of an integer, each with its width in bytes
 unfoldable pub long_places : LongAt → List Place
 long_places l = (l.count, 8) ∷ (l.digits, 4) ∷ []
 
+-- the field of a record with one value, with its width in bytes
 unfoldable pub value_places : ValueAt → List Place
 value_places v = (v.value, 8) ∷ []
 
+-- the fields of a dict, each with its width in bytes
 unfoldable pub dict_places : DictAt → List Place
 dict_places d = (d.keys, 8) ∷ (d.values, 8) ∷ []
 
+-- the fields of the keys of a dict, each with its width in bytes
 unfoldable pub keys_places : KeysAt → List Place
 keys_places k = (k.used, 8) ∷ optional_place k.slots 8 ∷ optional_place k.log2 1 ∷ optional_place k.kind 1 ∷ []
 
+-- the fields of a heap type, each with its width in bytes
 unfoldable pub heap_places : HeapAt → List Place
 heap_places h = (h.cached_keys, 8) ∷ []
 
+-- the fields of the interpreter lock's record, each with its width in bytes
 unfoldable pub gil_places : GilAt → List Place
 gil_places g = (g.locked, 4) ∷ (g.holder, 8) ∷ []
 
+-- the fields of `_Py_DebugOffsets`, each with its width in bytes
 unfoldable pub offsets_places : OffsetsAt → List Place
 offsets_places o = (o.head, 8) ∷ []

@@ -11,6 +11,7 @@ use Rattle.py_fields.specs.declared.layout.Dicts.TheVariants.{General}
 use Rattle.py_fields.specs.declared.layout.Managed.TheVariants.{Absent}
 use Rattle.py_fields.specs.declared.layout.Layout.{Layout}
 
+-- the layout of the example in docs/LAYOUTS.md
 abbrev pub sample_layout : Layout
 sample_layout = record {
   major = 3;

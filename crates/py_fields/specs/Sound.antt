@@ -40,6 +40,7 @@ pub record IsStart (places : List Place) (start : ℕ) : Type 0 where
   pub plain : IsPlain start
   pub behind : EndBy start places
 
+-- the numbers of the interpreter's record can be those of one
 pub record IsSoundInterpreter (lock : Lock) (i : InterpreterAt) : Type 0 where
   pub threads : IsPlain i.threads
   pub modules : IsPlain i.modules
@@ -47,11 +48,13 @@ pub record IsSoundInterpreter (lock : Lock) (i : InterpreterAt) : Type 0 where
   pub has_gil : IsSome i.gil ↔ (lock ≡ Gil)
   pub apart : AreApart (interpreter_places i)
 
+-- the numbers of a frame's record can be those of one
 pub record IsSoundFrame (lasti : Lasti) (f : FrameAt) : Type 0 where
   pub fields : IsRecord f.size (frame_places lasti f)
   pub locals : IsStart (frame_places lasti f) f.locals
   pub code_tag_bits : f.code_tag_bits ≤ 3
 
+-- the numbers of a code object can be those of one
 pub record IsSoundCode (lasti : Lasti) (c : CodeAt) : Type 0 where
   pub fields : IsRecord c.size (code_places c)
   pub start : IfSome c.start IsPlain
@@ -66,6 +69,7 @@ pub record HasState (strings : Strings) (s : StringAt) : Type 0 where
   pub compact_bit : IsSome s.compact_bit ↔ (strings ≡ State)
   pub ascii_bit : IsSome s.ascii_bit ↔ (strings ≡ State)
 
+-- the numbers of a text's record can be those of one
 pub record IsSoundString (strings : Strings) (s : StringAt) : Type 0 where
   pub optional : HasState strings s
   pub fields : IsRecord s.size (string_places s)
@@ -78,16 +82,19 @@ pub record IsSoundSequence (size : ℕ) (places : List Place) (start : ℕ) : Ty
   pub fields : IsRecord size places
   pub at : IsStart places start
 
+-- the numbers of an integer can be those of one: the digits stand behind the count
 pub record IsSoundLong (l : LongAt) : Type 0 where
   pub fields : IsRecord l.size (long_places l)
   pub behind : l.count + 8 ≤ l.digits
 
+-- the numbers of the keys of a dict can be those of some
 pub record IsSoundKeys (dicts : Dicts) (k : KeysAt) : Type 0 where
   pub fields : IsRecord k.size (keys_places k)
   pub has_slots : IsSome k.slots ↔ (dicts ≡ General)
   pub has_log2 : IsSome k.log2 ↔ (dicts ≡ Compact)
   pub has_kind : IsSome k.kind ↔ (dicts ≡ Compact)
 
+-- the numbers of a heap type can be those of one
 pub record IsSoundHeap (h : HeapAt) : Type 0 where
   pub fields : IsRecord h.size (heap_places h)
   pub inline : IsPlain h.inline
@@ -128,6 +135,7 @@ pub record AreSoundGroups (l : Layout) : Type 0 where
   pub gil : IfSome l.gil (λ g. IsRecord g.size (gil_places g))
   pub offsets : IfSome l.offsets (λ o. IsRecord o.size (offsets_places o))
 
+-- all numbers of a layout can be those of records: fields lie inside `size`, and no two meet
 pub record IsSound (l : Layout) : Type 0 where
   pub range : IsVersionRange l
   -- an object's managed dict is a compact one

@@ -68,7 +68,7 @@ impl Version {
     /// dots; a space; a character in UTF-8 other than a newline. Digits are ASCII. What stands before it
     /// does not matter: `13.7.1 x` spells 3.7.1. Where a place spells a version it spells one.
     ///
-    /// `NotFound` comes exactly where no place spells one. Else the one error is want of memory.
+    /// `NotFound` comes exactly where no place spells one. Else the one error is out of memory.
     pub fn scan_bytes(alloc: Global, bytes: &[u8]) -> Result<Version, ScanError>
         ensures found { IfOk result (IsLeftmost bytes.now) }
         ensures not_found { (result ≡ Err ScanError.NotFound) ↔ SpellsNone bytes.now }

@@ -20,7 +20,7 @@ pub struct Version {
     pub build_metadata: Option<Text>,
 }
 
-/// A copy of a version's metadata. The one error is want of memory.
+/// A copy of a version's metadata. The one error is out of memory.
 fn copy_metadata(metadata: &Option<Text>) -> Result<Option<Text>, AllocError>
     ensures { IfOk result (λ copy. copy ≡ metadata.now) }
 {
@@ -36,7 +36,7 @@ fn copy_metadata(metadata: &Option<Text>) -> Result<Option<Text>, AllocError>
 impl Version {
     ghost use Rattle.py_fields.specs.Version.{release};
 
-    /// The version of three numbers alone, with no flags and no metadata. The one error is want of memory.
+    /// The version of three numbers alone, with no flags and no metadata. The one error is out of memory.
     pub fn of_numbers(
         alloc: Global,
         major: u64,

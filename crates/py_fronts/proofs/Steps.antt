@@ -1,4 +1,4 @@
--- Steps of readers that answer a value, or want of memory.
+-- Steps of readers that answer a value, or out of memory.
 use Rattle.std.proofs.Common.{◌≡◌, ◌≢◌, ℕ, ◌+◌, ◌≤◌, Bool, true, false, not, List, refl, ◌∙◌, arith}
 use Rattle.std.specs.Prelude.{Ok, Err, Result, nat_eq}
 use Rattle.elf64_core.specs.Fields.{u64_in}

@@ -43,6 +43,7 @@ pub record ShowsTrace (thread : ThreadShown) (trace : Trace) : Type 0 where
   pub frames : ((thread.frames.ending ≡ Whole) × ShowsCalls thread.frames trace.frames)
       ⊎ ((thread.frames.ending ≡ Cut) × (thread.frames.met < member_limit))
 
+-- each thread is that of the trace at its place, and there are as many threads as traces
 abbrev pub ShowTraces : List ThreadShown → List Trace → Type 0
 ShowTraces [] [] = ⊤
 ShowTraces [] (trace ∷ rest) = ⊥

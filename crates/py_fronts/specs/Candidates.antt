@@ -35,6 +35,7 @@ words_there m a (suc count) = word_or_none (bytes_at m a 8) ++ words_there m (a 
 abbrev pub section_limit : ℕ
 section_limit = 4194304
 
+-- how many words of a section of so many bytes are looked at at most
 abbrev pub section_count : ℕ → ℕ
 section_count size = min (size / 8) section_limit
 
@@ -71,16 +72,20 @@ abbrev pub runtime_count : Option Facts → ℕ
 runtime_count None = 0
 runtime_count (Some facts) = section_count facts.pyruntime_size
 
+-- how many words of an image's bss are looked at at most
 abbrev pub bss_count : Option Facts → ℕ
 bss_count None = 0
 bss_count (Some facts) = section_count facts.bss_size
 
+-- how many words of the runtime sections of both images are looked at at most
 abbrev pub runtime_counts : Known → ℕ
 runtime_counts k = runtime_count k.program + runtime_count k.library
 
+-- how many words of the bss of both images are looked at at most
 abbrev pub bss_counts : Known → ℕ
 bss_counts k = bss_count k.program + bss_count k.library
 
+-- how many words of all sections are looked at at most
 abbrev pub words_in_sections : Known → ℕ
 words_in_sections k = runtime_counts k + bss_counts k
 
@@ -88,6 +93,7 @@ words_in_sections k = runtime_counts k + bss_counts k
 abbrev pub idle_limit : ℕ
 idle_limit = 64
 
+-- the number that was found; none where there is a fault
 abbrev pub found_or_none : Found ℕ → Option ℕ
 found_or_none (Ok a) = Some a
 found_or_none (Err f) = None
@@ -102,6 +108,7 @@ passed_by (Err f) next = None
 abbrev pub next_by : Layout → Memory → (place a : ℕ) → Option ℕ
 next_by l m place a = passed_by (threads_head l m a) (found_or_none (word_at m (a + place)))
 
+-- an address with those that follow it; none where there is none
 abbrev pub with_next : Option ℕ → (ℕ → List ℕ) → List ℕ
 with_next None rest = []
 with_next (Some a) rest = a ∷ rest a
@@ -143,6 +150,7 @@ abbrev pub runtime_in : Option Facts → Option ℕ
 runtime_in None = None
 runtime_in (Some facts) = if nat_eq facts.pyruntime_addr 0 then None else Some facts.pyruntime_addr
 
+-- the first list, or the second where that is empty
 abbrev pub or_else : List ℕ → List ℕ → List ℕ
 or_else [] other = other
 or_else (a ∷ rest) other = a ∷ rest
@@ -165,19 +173,22 @@ named_candidates k v l m = with_records l m (head_given k v l m)
 abbrev pub runtimes_there : Known → Memory → List ℕ
 runtimes_there k m = runtime_of_image m k.program ++ runtime_of_image m k.library
 
+-- the words of the bss of both images that are in memory
 abbrev pub bsses_there : Known → Memory → List ℕ
 bsses_there k m = bss_of_image m k.program ++ bss_of_image m k.library
 
+-- all words that the search tries as addresses of interpreters: the runtime sections', and then the bss's
 unfoldable pub searched_candidates : Known → Memory → List ℕ
 searched_candidates k m = runtimes_there k m ++ bsses_there k m
 
 -- ---- as they are read
 
--- a list with others behind it; want of memory may always be answered
+-- a list with others behind it; out of memory may always be answered
 abbrev pub AddsWords : (old added new : List ℕ) → Result (Unit {0}) StackError → Type 0
 AddsWords old added new (Ok u) = new ≡ old ++ added
 AddsWords old added new (Err e) = e ≡ OutOfMemory
 
+-- a reader's result with the items of its vector of words
 abbrev pub words_result : {E : Type 0} → Result (Vec ℕ Global) E → Result (List ℕ) E
 words_result (Ok words) = Ok words.items
 words_result (Err e) = Err e

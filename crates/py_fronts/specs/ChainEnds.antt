@@ -6,6 +6,7 @@ use Rattle.py_fronts.specs.Front.{Ending}
 use Rattle.py_fronts.specs.Front.Break.{Lost, Stray}
 use Rattle.py_fronts.specs.Front.Ending.{Whole, Cut, Broken}
 
+-- how a front ends, by the end of a chain that the code has
 abbrev pub ending_of : ChainEnd → Ending
 ending_of seen.Whole = Whole
 ending_of seen.Cut = Cut

@@ -13,12 +13,15 @@ use Rattle.py_fronts.specs.Ids.{names_thread}
 abbrev pub signal_place : ℕ
 signal_place = 12
 
+-- where a status record has the thread's id, `pr_pid` of Linux's `elf_prstatus`
 abbrev pub pid_place : ℕ
 pid_place = 32
 
+-- where a status record of x86-64 has the thread pointer, `fs_base` among the registers `pr_reg`
 abbrev pub fs_base_place : ℕ
 fs_base_place = 280
 
+-- the thread pointer of a long enough status record of x86-64; none of another machine
 abbrev pub fs_base_of : Machine → List ℕ → Option ℕ
 fs_base_of X86_64 status = Some (u64_in status fs_base_place)
 fs_base_of _ status = None
@@ -27,6 +30,7 @@ fs_base_of _ status = None
 abbrev pub thread_pointer : Machine → List ℕ → Option ℕ
 thread_pointer machine status = if nat_lt (length status) 288 then None else fs_base_of machine status
 
+-- a thread by the id and the thread pointer of its status record
 abbrev pub status_thread : Machine → List ℕ → Crash
 status_thread machine status =
     record { native_id = Some (u32_in status pid_place); thread_pointer = thread_pointer machine status }
@@ -41,6 +45,7 @@ abbrev pub is_id : Option ℕ → ℕ → Bool
 is_id None id = false
 is_id (Some told) id = names_thread told id
 
+-- whether both ids are there, the one that is told and the thread's own of the system, and the first names the second
 abbrev pub is_native : Option ℕ → Option ℕ → Bool
 is_native told None = false
 is_native told (Some id) = is_id told id

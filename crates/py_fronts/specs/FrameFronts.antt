@@ -21,6 +21,7 @@ use Rattle.py_fronts.specs.Standings.{Stood, standing_at, standing_reads, stood}
 abbrev pub thread_members_limit : ℕ
 thread_members_limit = 1048576
 
+-- how many members of chains of frames are met in all threads together at most
 abbrev pub all_members_limit : ℕ
 all_members_limit = 4194304
 
@@ -36,6 +37,7 @@ number_between limit kept = length kept - 2 * limit
 abbrev pub shown_last : ℕ → List ℕ → List ℕ
 shown_last limit kept = if nat_le (length kept) (2 * limit) then [] else drop (length kept - limit) kept
 
+-- a thread's frames: those shown first and last, how many stand between, how many members were met, and the end
 pub record FramesShown : Type 0 where
   pub first : List Stood
   pub between : ℕ
@@ -53,6 +55,7 @@ frames_shown q l m limit c = record {
   ending = c.ending;
 }
 
+-- the kept members of the chain from a first one on; none where the word that leads to it isn't in memory
 abbrev pub chain_from : Layout → Memory → ℕ → Found ℕ → Chained
 chain_from l m limit (Ok first) = kept_of l m (members_front l m limit first)
 chain_from l m limit (Err f) = record { kept = []; met = 0; ending = Broken (Lost f) }
@@ -64,6 +67,7 @@ chain_of_thread l m limit thread = chain_from l m limit (first_frame_at l m thre
 
 -- ---- as it is read
 
+-- a front of frames that the code has, as the frames that it shows
 abbrev pub frames_front : FramesFront → FramesShown
 frames_front f = record {
   first = map stood f.first.items;
@@ -73,6 +77,7 @@ frames_front f = record {
   ending = ending_of f.end;
 }
 
+-- a reader's result with the frames that its front shows
 abbrev pub frames_front_result : {E : Type 0} → Result FramesFront E → Result FramesShown E
 frames_front_result (Ok f) = Ok (frames_front f)
 frames_front_result (Err e) = Err e

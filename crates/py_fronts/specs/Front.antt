@@ -14,6 +14,7 @@ pub data Ending : Type 0 where
   Cut : Ending
   Broken : Break → Ending
 
+-- the first members of a chain, by their addresses, and how they end
 pub record Front : Type 0 where
   pub members : List ℕ
   pub ending : Ending
@@ -44,13 +45,16 @@ or_lost (Err f) = Err (Lost f)
 
 -- ---- the same, as it is read
 
+-- a front with these members before its own
 abbrev pub behind : List ℕ → Front → Front
 behind xs r = record { members = xs ++ r.members; ending = r.ending }
 
+-- the front from one member on: it and those after it, or broken before it where it is none
 abbrev pub front_by : ℕ → Result ℕ Break → (ℕ → Front) → Front
 front_by a (Ok n) rest = behind (a ∷ []) (rest n)
 front_by a (Err why) rest = record { members = []; ending = Broken why }
 
+-- the front of at most so many members of the chain from an address on, where 0 is the chain's end
 unfoldable pub front_at : (ℕ → Result ℕ Break) → ℕ → ℕ → Front
 front_at next limit zero = record { members = []; ending = Whole }
 front_at next zero (suc a) = record { members = []; ending = Cut }

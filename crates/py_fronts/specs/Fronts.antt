@@ -26,9 +26,11 @@ pub record InterpreterShown : Type 0 where
   pub searched : Bool
   pub threads : ThreadsShown
 
+-- the threads of an interpreter that was found, where so many members of chains of frames may be met yet
 abbrev pub threads_from : Asked → Layout → Memory → (limit left : ℕ) → FoundInterpreter → ThreadsShown
 threads_from q l m limit left one = front_shown q l m limit left (threads_front l one.address m one.head)
 
+-- an interpreter that was found, with its threads
 abbrev pub interpreter_front : Asked → Layout → Memory → (limit left : ℕ) → FoundInterpreter → InterpreterShown
 interpreter_front q l m limit left one =
     record { address = one.address; searched = one.searched; threads = threads_from q l m limit left one }
@@ -46,11 +48,13 @@ found_left q l m limit left [] = left
 found_left q l m limit left (one ∷ rest) =
     found_left q l m limit (left_after left (threads_from q l m limit left one).threads) rest
 
+-- the interpreters that are shown, whether there are more than may be, and what was looked at to find them
 pub record FrontsShown : Type 0 where
   pub interpreters : List InterpreterShown
   pub more : Bool
   pub looked : Looked
 
+-- the interpreters that are found in a memory, with the fronts of all their threads
 unfoldable pub fronts_at : (ℕ → Bool) → Known → Version → Layout → Memory → Asked → ℕ → FrontsShown
 fronts_at contains k v l m q limit = record {
   interpreters = interpreters_fronts q l m limit all_members_limit (interpreters_at contains k v l m).found;
@@ -60,14 +64,17 @@ fronts_at contains k v l m q limit = record {
 
 -- ---- as they are read
 
+-- an interpreter's front that the code has, as the interpreter that it shows
 abbrev pub interpreter_of_front : InterpreterFront → InterpreterShown
 interpreter_of_front i = record { address = i.address; searched = i.searched; threads = threads_of i.threads }
 
+-- a reader's result with the interpreters that its vector of fronts shows
 abbrev pub interpreters_result : {E : Type 0} → Result (Vec InterpreterFront Global) E
     → Result (List InterpreterShown) E
 interpreters_result (Ok is) = Ok (map interpreter_of_front is.items)
 interpreters_result (Err e) = Err e
 
+-- a reader's result with what its fronts show
 abbrev pub fronts_result : {E : Type 0} → Result Fronts E → Result FrontsShown E
 fronts_result (Ok f) = Ok (record {
   interpreters = map interpreter_of_front f.interpreters.items;

@@ -45,16 +45,19 @@ whole_head (Broken why) head = None
 
 -- the first thread of an address, where it is an interpreter's
 
+-- the first thread, where the interpreter that it names is the one at this address
 abbrev pub names_it : ℕ → ℕ → Found ℕ → Option ℕ
 names_it a head (Ok named) = if nat_eq named a then Some head else None
 names_it a head (Err f) = None
 
+-- the first thread of an address, by what its record names as that: no null, in a map, and it names the address
 abbrev pub headed_by : (ℕ → Bool) → Layout → Memory → ℕ → Found ℕ → Option ℕ
 headed_by contains l m a (Err f) = None
 headed_by contains l m a (Ok zero) = None
 headed_by contains l m a (Ok (suc head)) =
     if contains (suc head) then names_it a (suc head) (interpreter_named_by l m (suc head)) else None
 
+-- the first thread of the interpreter at an address; none where a map holds no interpreter there
 unfoldable pub headed_at : (ℕ → Bool) → Layout → Memory → ℕ → Option ℕ
 headed_at contains l m a = if contains a then headed_by contains l m a (threads_head l m a) else None
 
@@ -64,6 +67,7 @@ shown_where false l m a head = head
 shown_where true l m a None = None
 shown_where true l m a (Some head) = whole_head (threads_front l a m head).ending head
 
+-- the first thread of an address, where an interpreter is shown that comes by name or by search alone
 unfoldable pub shown_head : Bool → (ℕ → Bool) → Layout → Memory → ℕ → Option ℕ
 shown_head searched contains l m a = shown_where searched l m a (headed_at contains l m a)
 
@@ -74,15 +78,18 @@ pub record Finds : Type 0 where
   pub found : List FoundInterpreter
   pub more : Bool
 
+-- whether the interpreter at an address is among those that were found
 abbrev pub is_found : List FoundInterpreter → ℕ → Bool
 is_found found a = list_any (λ h. nat_eq h.address a) found
 
+-- the finds with one more; only a mark that there are more where 16 were found before
 abbrev pub with_one : Finds → FoundInterpreter → Finds
 with_one r h =
     if nat_lt (length r.found) interpreter_limit
     then record { found = r.found ++ h ∷ []; more = r.more }
     else record { found = r.found; more = true }
 
+-- the finds with the interpreter at an address, where it has a first thread
 abbrev pub with_head : Finds → Bool → ℕ → Option ℕ → Finds
 with_head r searched a None = r
 with_head r searched a (Some head) = with_one r (record { address = a; head = head; searched = searched })
@@ -111,6 +118,7 @@ after_candidates searched contains l m r (a ∷ rest) =
 abbrev pub address_at : List FoundInterpreter → ℕ → Option ℕ
 address_at found index = option_map (λ (one : FoundInterpreter). one.address) (slice_get found index)
 
+-- the finds after the addresses that the record of an interpreter leads to, if there is one
 abbrev pub after_record_of : (ℕ → Bool) → Layout → Memory → Finds → Option ℕ → Finds
 after_record_of contains l m r None = r
 after_record_of contains l m r (Some a) = after_candidates false contains l m r (others_led_to l m a)
@@ -126,6 +134,7 @@ abbrev pub with_their_records : Bool → (ℕ → Bool) → Layout → Memory �
 with_their_records searched contains l m r xs =
     after_records contains l m interpreter_limit 0 (after_candidates searched contains l m r xs)
 
+-- no interpreter was found yet
 abbrev pub none_found : Finds
 none_found = record { found = []; more = false }
 
@@ -151,6 +160,7 @@ chain_length l m a (Some head) = length (threads_front l a m head).members
 abbrev pub walked_for : (ℕ → Bool) → Layout → Memory → List FoundInterpreter → ℕ → ℕ
 walked_for contains l m found a = if is_found found a then 0 else chain_length l m a (headed_at contains l m a)
 
+-- a search after one more address: it is tried by search alone, and counted with the members walked for it
 abbrev pub look_at : (ℕ → Bool) → Layout → Memory → Search → ℕ → Search
 look_at contains l m s a = record {
   finds = after_candidate true contains l m s.finds a;
@@ -171,11 +181,13 @@ after_looks contains l m s (a ∷ rest) = after_looks contains l m (look_within 
 abbrev pub search_from : Finds → ℕ → Search
 search_from r addresses = record { finds = r; addresses = addresses; members = 0 }
 
+-- the search before any section is looked at: those that are named, and those that their records lead to
 unfoldable pub search_begins : (ℕ → Bool) → Known → Version → Layout → Memory → Search
 search_begins contains k v l m =
     search_from (with_their_records false contains l m none_found (named_candidates k v l m))
     (length (named_candidates k v l m))
 
+-- the search after all words of the sections that are looked at
 unfoldable pub search_at : (ℕ → Bool) → Known → Version → Layout → Memory → Search
 search_at contains k v l m =
     after_looks contains l m (search_begins contains k v l m) (searched_candidates k m)
@@ -189,6 +201,7 @@ looked_by k s = record {
   ended = nat_le search_limit s.members || has_long_section k;
 }
 
+-- what is said of the search for the interpreters of a process
 unfoldable pub looked_at : (ℕ → Bool) → Known → Version → Layout → Memory → Looked
 looked_at contains k v l m = looked_by k (search_at contains k v l m)
 
@@ -202,12 +215,14 @@ pub record Told : Type 0 where
   pub finds : Finds
   pub looked : Looked
 
+-- the interpreters of a process, and what was looked at to find them
 abbrev pub told_at : (ℕ → Bool) → Known → Version → Layout → Memory → Told
 told_at contains k v l m =
     record { finds = interpreters_at contains k v l m; looked = looked_at contains k v l m }
 
 -- ---- as they are read
 
+-- the finds that the code has, with the items of their vector
 abbrev pub finds_of : FoundInterpreters → Finds
 finds_of r = record { found = r.found.items; more = r.more }
 
@@ -216,12 +231,15 @@ pub record Walked : Type 0 where
   pub members : ℕ
   pub ending : Ending
 
+-- how many members a front of threads has, and how it ends
 abbrev pub walked_of : Front → Walked
 walked_of front = record { members = length front.members; ending = front.ending }
 
+-- the walk of a chain of threads that the code has, with its ending
 abbrev pub walk_of : ThreadsWalk → Walked
 walk_of w = record { members = w.members; ending = ending_of w.end }
 
+-- a reader's result with the walk of a chain of threads
 abbrev pub walk_result : {E : Type 0} → Result ThreadsWalk E → Result Walked E
 walk_result (Ok w) = Ok (walk_of w)
 walk_result (Err e) = Err e
@@ -231,32 +249,39 @@ pub record Tried : Type 0 where
   pub head : Option ℕ
   pub members : ℕ
 
+-- what is said of an address that the search tries
 abbrev pub try_at : (ℕ → Bool) → Layout → Memory → ℕ → Tried
 try_at contains l m a =
     record { head = shown_head true contains l m a; members = chain_length l m a (headed_at contains l m a) }
 
+-- an address that was tried, as the code has it
 abbrev pub tried_of : Trial → Tried
 tried_of t = record { head = t.head; members = t.members }
 
+-- a reader's result with the address that was tried
 abbrev pub tried_result : {E : Type 0} → Result Trial E → Result Tried E
 tried_result (Ok t) = Ok (tried_of t)
 tried_result (Err e) = Err e
 
+-- a search that the code has, with the items of its finds
 abbrev pub search_of : Searching → Search
 search_of s = record { finds = finds_of s.finds; addresses = s.addresses; members = s.members }
 
--- the search after some more; want of memory may always be answered
+-- the search after some more; out of memory may always be answered
 abbrev pub Looks : Search → Searching → Result (Unit {0}) StackError → Type 0
 Looks wanted new (Ok u) = search_of new ≡ wanted
 Looks wanted new (Err e) = e ≡ OutOfMemory
 
+-- a reader's result with its search
 abbrev pub searching_result : {E : Type 0} → Result Searching E → Result Search E
 searching_result (Ok s) = Ok (search_of s)
 searching_result (Err e) = Err e
 
+-- the interpreters that the code has found, with the items of their vector, and what was looked at
 abbrev pub told_of : InterpreterSearch → Told
 told_of s = record { finds = finds_of s.finds; looked = s.looked }
 
+-- a reader's result with the interpreters and what was looked at to find them
 abbrev pub told_result : {E : Type 0} → Result InterpreterSearch E → Result Told E
 told_result (Ok s) = Ok (told_of s)
 told_result (Err e) = Err e
@@ -266,7 +291,7 @@ abbrev pub HeadIs : ℕ → Thread → Option ℕ → Type 0
 HeadIs head (At thread) result = result ≡ Some head
 HeadIs head (Outside end) result = result ≡ None
 
--- what was found after some more; want of memory may always be answered
+-- what was found after some more; out of memory may always be answered
 abbrev pub Takes : Finds → FoundInterpreters → Result (Unit {0}) StackError → Type 0
 Takes wanted new (Ok u) = finds_of new ≡ wanted
 Takes wanted new (Err e) = e ≡ OutOfMemory
@@ -289,6 +314,7 @@ candidates_reads searched contains l m xs = sum_by (candidate_reads searched con
 abbrev pub record_reads : Layout → Memory → ℕ → ℕ
 record_reads l m a = 1 + 4 * length (record_candidates l m a)
 
+-- how many reads the record of an interpreter takes; none where there is no interpreter
 abbrev pub reads_of_record : Layout → Memory → Option ℕ → ℕ
 reads_of_record l m None = 0
 reads_of_record l m (Some a) = record_reads l m a

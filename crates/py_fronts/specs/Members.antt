@@ -33,6 +33,7 @@ hides (Err f) = false
 unfoldable pub is_left_out : Layout → Memory → MemberAt → Bool
 is_left_out l m r = nat_eq (u64_in r.code l.code.filename) 0 || hides (text_at l m (u64_in r.code l.code.filename))
 
+-- whether a member with these records is kept; not where they aren't in memory
 abbrev pub is_kept_by : Layout → Memory → Found MemberAt → Bool
 is_kept_by l m (Ok r) = not (is_left_out l m r)
 is_kept_by l m (Err f) = false
@@ -51,6 +52,7 @@ pub record Chained : Type 0 where
   pub met : ℕ
   pub ending : Ending
 
+-- the members of a front that are kept, how many it met in all, and how it ends
 abbrev pub kept_of : Layout → Memory → Front → Chained
 kept_of l m front = record {
   kept = filter (is_kept l m) front.members;
@@ -60,9 +62,11 @@ kept_of l m front = record {
 
 -- ---- as it is read
 
+-- a chain that the code has, with the items of its vector and its ending
 abbrev pub chained : Chain → Chained
 chained c = record { kept = c.kept.items; met = c.met; ending = ending_of c.end }
 
+-- a reader's result with its chain
 abbrev pub chained_of_result : {E : Type 0} → Result Chain E → Result Chained E
 chained_of_result (Ok c) = Ok (chained c)
 chained_of_result (Err e) = Err e
@@ -82,6 +86,7 @@ abbrev pub StopsBy : StackError → Result Step StackError → Type 0
 StopsBy (stack.Unreadable addr len) result = result ≡ Ok (Broken (Unreadable addr len))
 StopsBy _ result = result ≡ Err stack.OutOfMemory
 
+-- the member, where it stands; else none
 abbrev pub kept_if : Bool → ℕ → List ℕ
 kept_if stands a = if stands then a ∷ [] else []
 

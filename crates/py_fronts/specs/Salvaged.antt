@@ -34,9 +34,11 @@ pub record LockedInterpreter : Type 0 where
   pub interpreter : InterpreterShown
   pub lock : LockState
 
+-- an interpreter with the state of its own lock
 abbrev pub with_lock : Machine → Known → Version → Layout → Memory → InterpreterShown → LockedInterpreter
 with_lock machine k v l m i = record { interpreter = i; lock = lock_told machine k v l m i.address }
 
+-- the interpreters with their locks, whether there are more, what was looked at, and which thread got the signal
 pub record SalvagedShown : Type 0 where
   pub interpreters : List LockedInterpreter
   pub more : Bool
@@ -55,16 +57,20 @@ salvaged_at contains machine k v l m q limit crash = record {
 
 -- ---- as they are read
 
+-- an interpreter with its lock that the code has, as it is shown
 abbrev pub locked : SalvagedInterpreter → LockedInterpreter
 locked i = record { interpreter = interpreter_of_front i.front; lock = i.lock }
 
+-- a reader's result with the interpreters, each with its lock
 abbrev pub locked_result : {E : Type 0} → Result (Vec SalvagedInterpreter Global) E → Result (List LockedInterpreter) E
 locked_result (Ok is) = Ok (map locked is.items)
 locked_result (Err e) = Err e
 
+-- what some fronts show, each interpreter with its lock
 abbrev pub with_locks : Machine → Known → Version → Layout → Memory → List InterpreterFront → List LockedInterpreter
 with_locks machine k v l m fronts = map (with_lock machine k v l m) (map interpreter_of_front fronts)
 
+-- a reader's result with what is left of the stacks, as it is shown
 abbrev pub salvaged_result : {E : Type 0} → Result Salvaged E → Result SalvagedShown E
 salvaged_result (Ok s) = Ok (record {
   interpreters = map locked s.interpreters.items;

@@ -29,6 +29,7 @@ abbrev pub EachOnce : List FoundInterpreter → Type 0
 EachOnce [] = ⊤
 EachOnce (one ∷ rest) = (is_found rest one.address ≡ false) × EachOnce rest
 
+-- each of those that were found is shown rightly, once, and there are at most 16
 pub record AreShown (contains : ℕ → Bool) (l : Layout) (m : Memory) (r : Finds) : Type 0 where
   pub each : All (IsShown contains l m) r.found
   pub once : EachOnce r.found
@@ -38,6 +39,7 @@ pub record AreShown (contains : ℕ → Bool) (l : Layout) (m : Memory) (r : Fin
 abbrev pub IsTaken : (ℕ → Bool) → Layout → Memory → Finds → ℕ → Type 0
 IsTaken contains l m r a = (head : ℕ) → IsHeaded contains l m a head → is_found r.found a ≡ true
 
+-- an address was found, if it is an interpreter's and the chain of its threads is whole
 abbrev pub IsTakenWhole : (ℕ → Bool) → Layout → Memory → Finds → ℕ → Type 0
 IsTakenWhole contains l m r a = (head : ℕ) → IsHeaded contains l m a head → (threads_front l a m head).ending ≡ Whole
     → is_found r.found a ≡ true
@@ -66,5 +68,6 @@ pub record IsMarked (k : Known) (v : Version) (l : Layout) (m : Memory) (found :
   pub found_by_name : one.searched ≡ false → IsNamed k v l m found one.address
   pub named : IsNamed k v l m found one.address → one.searched ≡ false
 
+-- each that was found is marked as found by search alone exactly where nothing names it
 abbrev pub AreMarked : Known → Version → Layout → Memory → Finds → Type 0
 AreMarked k v l m r = All (IsMarked k v l m r.found) r.found

@@ -31,10 +31,12 @@ pub data Stood : Type 0 where
   -- its address, and why it has no names
   IsMember : (address : ℕ) → Option Fault → Stood
 
+-- why the locals of a frame can't be read; none where they can
 abbrev pub lost_locals : Option StackError → Option (Option Fault)
 lost_locals None = None
 lost_locals (Some e) = Some (stack_fault e)
 
+-- what stands for a member, as the code has it
 abbrev pub stood : Standing → Stood
 stood (Frame frame fault) = IsFrame (call_of frame) (lost_locals fault)
 stood (Member address why) = IsMember address (object_fault why)
@@ -51,6 +53,7 @@ abbrev pub locals_or_fault : Found (Option (List LocalVariable)) → Option (Lis
 locals_or_fault (Ok locals) = (locals, None)
 locals_or_fault (Err f) = (None, Some (Some f))
 
+-- whether no frame is shown for a member with these records; so where they aren't in memory
 abbrev pub shows_none : Layout → Memory → Found MemberAt → Bool
 shows_none l m (Ok r) = is_none (plain_by l m r)
 shows_none l m (Err f) = true
@@ -68,15 +71,18 @@ call_by l m r file name line locals = record (call_named file name (is_entered l
   is_shim_entry = has_no_caller l m (back_by l r);
 }
 
+-- the frame of a member with its detail, and why its locals can't be read, by the texts of its file and its name
 abbrev pub framed : Asked → Layout → Memory → MemberAt → (file name : List ℕ) → Stood
 framed q l m r file name =
     IsFrame (call_by l m r file name (line_or_first q.lineno l m r) (locals_or_fault (asked_locals q.locals l m r)).0)
     (locals_or_fault (asked_locals q.locals l m r)).1
 
+-- what stands for a member by its two texts: its frame, or itself where they can't be read
 abbrev pub standing_named : Asked → Layout → Memory → ℕ → MemberAt → Found (List ℕ × List ℕ) → Stood
 standing_named q l m a r (Ok texts) = framed q l m r texts.0 texts.1
 standing_named q l m a r (Err f) = IsMember a (Some f)
 
+-- what stands for a member by its records: itself where they aren't in memory
 abbrev pub standing_by : Asked → Layout → Memory → ℕ → Found MemberAt → Stood
 standing_by q l m a (Ok r) = standing_named q l m a r (texts_at l m r)
 standing_by q l m a (Err f) = IsMember a (Some f)
@@ -93,22 +99,24 @@ standing_at q l m a = standing_by q l m a (records_at l m a)
 abbrev pub standing_reads : Asked → ℕ
 standing_reads q = 526 + locals_most q.locals
 
+-- a reader's result with what stands for a member
 abbrev pub stood_result : {E : Type 0} → Result Standing E → Result Stood E
 stood_result (Ok s) = Ok (stood s)
 stood_result (Err e) = Err e
 
+-- a reader's result with what stands for each of some members
 abbrev pub stood_results : {E : Type 0} → Result (Vec Standing Global) E → Result (List Stood) E
 stood_results (Ok ss) = Ok (map stood ss.items)
 stood_results (Err e) = Err e
 
--- the locals that were read as what stands for them; want of memory is handed on
+-- the locals that were read as what stands for them; out of memory is handed on
 abbrev pub LocalsAre : Result (Option (Vec LocalVariable Global)) StackError → Result Locals StackError → Type 0
 LocalsAre (Ok locals) result = result ≡ Ok (record { locals = locals; fault = None })
 LocalsAre (Err e) result =
     MatchOption (stack_fault e) (result ≡ Err stack.OutOfMemory)
     (λ f. result ≡ Ok (record { locals = None; fault = Some e }))
 
--- a member without names; want of memory is handed on
+-- a member without names; out of memory is handed on
 abbrev pub IsNameless : ℕ → ObjectError → Result Standing StackError → Type 0
 IsNameless address why result =
     MatchOption (object_fault why) (result ≡ Err stack.OutOfMemory) (λ f. result ≡ Ok (Member address why))

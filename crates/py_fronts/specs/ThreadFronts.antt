@@ -37,6 +37,7 @@ thread_of l interpreter m a = after_record l interpreter (record_at m a l.thread
 abbrev pub threads_front : Layout → ℕ → Memory → ℕ → Front
 threads_front l interpreter m head = front_at (thread_of l interpreter m) thread_limit head
 
+-- a thread by the address of its record, its ids (`thread_id` and `native_thread_id`), and the front of its frames
 pub record ThreadShown : Type 0 where
   pub address : ℕ
   pub thread_id : ℕ
@@ -52,6 +53,7 @@ thread_by q l m limit left a thread = record {
   frames = frames_shown q l m limit (chain_of_thread l m (min left thread_members_limit) thread);
 }
 
+-- the bytes that were found; none where there is a fault
 abbrev pub bytes_of : Found (List ℕ) → List ℕ
 bytes_of (Ok bytes) = bytes
 bytes_of (Err f) = []
@@ -71,16 +73,19 @@ threads_shown q l m limit left [] = []
 threads_shown q l m limit left (a ∷ rest) = thread_shown q l m limit left a
     ∷ threads_shown q l m limit (left - (thread_shown q l m limit left a).frames.met) rest
 
+-- the first threads of an interpreter's chain, and how they end
 pub record ThreadsShown : Type 0 where
   pub threads : List ThreadShown
   pub ending : Ending
 
+-- the threads of a front, each with its frames, where so many members may be met yet
 abbrev pub front_shown : Asked → Layout → Memory → (limit left : ℕ) → Front → ThreadsShown
 front_shown q l m limit left front =
     record { threads = threads_shown q l m limit left front.members; ending = front.ending }
 
 -- ---- as it is read
 
+-- a thread's front that the code has, as the thread that it shows
 abbrev pub thread_front : ThreadFront → ThreadShown
 thread_front t = record {
   address = t.address;
@@ -89,13 +94,16 @@ thread_front t = record {
   frames = frames_front t.frames;
 }
 
+-- a reader's result with the thread that its front shows
 abbrev pub thread_front_result : {E : Type 0} → Result ThreadFront E → Result ThreadShown E
 thread_front_result (Ok t) = Ok (thread_front t)
 thread_front_result (Err e) = Err e
 
+-- a front of threads that the code has, as the threads that it shows
 abbrev pub threads_of : ThreadsFront → ThreadsShown
 threads_of r = record { threads = map thread_front r.threads.items; ending = ending_of r.end }
 
+-- a reader's result with the threads that its front shows
 abbrev pub threads_result : {E : Type 0} → Result ThreadsFront E → Result ThreadsShown E
 threads_result (Ok r) = Ok (threads_of r)
 threads_result (Err e) = Err e

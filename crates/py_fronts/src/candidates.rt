@@ -58,7 +58,7 @@ fn add_section<P: ProcessMemory>(
     Ok(())
 }
 
-/// Nothing, where a word of an interpreter can't be read; want of memory is handed on.
+/// Nothing, where a word of an interpreter can't be read; out of memory is handed on.
 pub(crate) fn nothing_read(error: StackError) -> Result<Option<u64>, StackError>
     ensures { MatchOption (stack_fault error) (result ≡ Err StackError.OutOfMemory) (λ f. result ≡ Ok None) }
 {
@@ -259,7 +259,7 @@ fn read_given<M: ContainsAddr, P: ProcessMemory>(
 
 /// The candidates that are named, in order: the head that symbols give, as `py_process::read_head` says, or else the
 /// runtime section of the program or of the library; and those that its record leads to, since the newest interpreter
-/// may have no thread. The one error is want of memory. At most 7 reads, and 2 for each of these.
+/// may have no thread. The one error is out of memory. At most 7 reads, and 2 for each of these.
 pub fn named_candidates<M: ContainsAddr, P: ProcessMemory>(
     alloc: Global,
     info: &PythonProcessInfo<M>,

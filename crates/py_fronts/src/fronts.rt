@@ -122,7 +122,7 @@ fn all_fronts<M: ContainsAddr, P: ProcessMemory>(
 ///   between the first and the last, no more than are counted there; or its chain of frames is cut, of fewer than 16384
 ///   members, because no more could be met in all.
 ///
-/// The one error is want of memory. The reads are those of `find_interpreters`, and for each interpreter one, for each
+/// The one error is out of memory. The reads are those of `find_interpreters`, and for each interpreter one, for each
 /// of its threads 7, for each member that is met 5, and for each that is shown 526, 513 of them of its line table, or
 /// 262,666 where locals are asked for. No more are shown than are met, over all threads together: for 16 interpreters
 /// these are at most 2,227,634,192 without locals, and 1,101,722,484,752 with them, for a `limit` of 100 as for one of

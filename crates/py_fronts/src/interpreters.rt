@@ -352,7 +352,7 @@ fn find_all<M: ContainsAddr, P: ProcessMemory>(
 /// a map, and the record of that thread names the address. One that is found by search alone is taken only where its
 /// chain of threads is whole.
 ///
-/// The one error is want of memory. At most 7 reads, and 4 for each candidate that is named; for each word of the
+/// The one error is out of memory. At most 7 reads, and 4 for each candidate that is named; for each word of the
 /// sections that is looked at 5, and one for each member that is walked; and twice for each interpreter that is shown
 /// one for its record, and 4 for each that it leads to. A record leads to at most 65 for each of its words that are
 /// looked at.

@@ -70,7 +70,7 @@ fn gone(error: LockError) -> Result<LockState, StackError>
 /// The state of an interpreter's own lock: who holds it, or what is not in memory of what tells it.
 ///
 /// The lock is found as `py_process::get_threadstate_address` says, and its holder read as
-/// `py_stacks::get_gil_threadid` does. The one error is want of memory, and it comes only where a read of the
+/// `py_stacks::get_gil_threadid` does. The one error is out of memory, and it comes only where a read of the
 /// process may want it. At most 3 reads.
 pub fn lock_state<M: ContainsAddr, P: ProcessMemory>(
     interpreter: u64,

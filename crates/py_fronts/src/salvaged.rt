@@ -83,7 +83,7 @@ pub fn with_locks<M: ContainsAddr, P: ProcessMemory>(
 
 /// What is left of a process's stacks: its interpreters, as `py_fronts::get_fronts` has them, each with its own lock.
 ///
-/// `crash` is handed on. The one error is want of memory. The reads are those of `get_fronts`, and 3 for each lock.
+/// `crash` is handed on. The one error is out of memory. The reads are those of `get_fronts`, and 3 for each lock.
 pub fn salvage<M: ContainsAddr, P: ProcessMemory>(
     alloc: Global,
     info: &PythonProcessInfo<M>,

@@ -68,7 +68,7 @@ fn read_texts<P: ProcessMemory>(
     Ok((filename, name))
 }
 
-/// The locals that were read, or why there are none; want of memory is handed on.
+/// The locals that were read, or why there are none; out of memory is handed on.
 fn locals_or_fault(
     read: Result<Option<Vec<LocalVariable>>, StackError>,
 ) -> Result<Locals, StackError>
@@ -87,7 +87,7 @@ fn locals_or_fault(
     }
 }
 
-/// A member without names has no frame; want of memory is handed on.
+/// A member without names has no frame; out of memory is handed on.
 fn without_names(why: ObjectError) -> Result<bool, StackError>
     ensures { MatchOption (object_fault why) (result ≡ Err StackError.OutOfMemory) (λ f. result ≡ Ok true) }
 {
@@ -183,7 +183,7 @@ fn read_frame<P: ProcessMemory>(
     Ok(Standing::Frame { frame, fault })
 }
 
-/// A member without names; want of memory is handed on.
+/// A member without names; out of memory is handed on.
 fn nameless(address: u64, why: ObjectError) -> Result<Standing, StackError>
     ensures { IsNameless address why result }
 {
@@ -253,7 +253,7 @@ fn read_standing<P: ProcessMemory>(
 }
 
 /// What stands for the members at some addresses, in order; the texts of their frames share their bytes with those of
-/// the same characters that were met before. The one error is want of memory. At most 526 reads for
+/// the same characters that were met before. The one error is out of memory. At most 526 reads for
 /// each, and those of its locals.
 pub(crate) fn read_standings<P: ProcessMemory>(
     alloc: Global,

@@ -50,7 +50,7 @@ fn read_table<P: ProcessMemory>(
 }
 
 /// The line of the member that has these records: the one that is asked for, and 0 where there is none. The one error
-/// is want of memory. At most 513 reads, of the line table, and none where it is not asked for.
+/// is out of memory. At most 513 reads, of the line table, and none where it is not asked for.
 #[tactic(auto, unfolding(crate::specs::TableLines::line_by))]
 fn read_line<P: ProcessMemory>(
     alloc: Global,

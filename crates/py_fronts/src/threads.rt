@@ -31,7 +31,7 @@ use std::alloc::Global;
 /// them is its own and ends nothing. Its line is that of `frame_lines`, by a table of up to 2^24 bytes and the steps of
 /// its version; but one that stands before its first instruction has the first line of its code.
 ///
-/// The one error is want of memory. At most one read, 7 for each thread, and 5 for each member that is met; and for
+/// The one error is out of memory. At most one read, 7 for each thread, and 5 for each member that is met; and for
 /// each that is shown 526, 513 of them of its line table, or 262,666 where locals are asked for, 4 for each of 65,535
 /// variables. No more are shown than are met.
 pub fn get_threads_front<P: ProcessMemory>(
@@ -53,7 +53,7 @@ pub fn get_threads_front<P: ProcessMemory>(
     ensures right { ReadingThreads asked layout.now limit left.old interpreter head (P.seen process.old)
         (P.seen process.new) (λ m. IfOk result (λ front.
         AreFirstThreads asked layout.now m limit left.old interpreter head (threads_of front))) }
-    // what is right is the answer, want of memory aside
+    // what is right is the answer, out of memory aside
     ensures only { ReadingThreads asked layout.now limit left.old interpreter head (P.seen process.old)
         (P.seen process.new) (λ m. (shown : ThreadsShown)
         → AreFirstThreads asked layout.now m limit left.old interpreter head shown

@@ -36,6 +36,7 @@ pub record IsHeap (l : Layout) (p : HeapPlaces) (m : Memory) (lists : Four) (hea
   pub classes : heap.classes.items ≡ named_classes l p.classes m counted.classes
   pub unreadable : heap.unreadable ≡ counted.unreadable
 
+-- the heap by the collector's lists; or no lists, and the head that shows it
 abbrev pub IsHeapBy : Layout → HeapPlaces → Memory → Told → HeapTold → Type 0
 IsHeapBy l p m (AreHere lists) (told.Counted heap) = IsHeap l p m lists heap
 IsHeapBy l p m (AreHere lists) (told.NoLists head) = ⊥
@@ -51,6 +52,7 @@ pub record IsHeapAt (l : Layout) (p : HeapPlaces) (bases : List ℕ) (m : Memory
 
 -- ---- reads
 
+-- how many objects the lists have
 abbrev pub objects_told : HeapTold → ℕ
 objects_told (told.NoLists head) = 0
 objects_told (told.Counted h) = h.youngest.objects + h.middle.objects + h.oldest.objects + h.permanent.objects

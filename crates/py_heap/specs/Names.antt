@@ -19,6 +19,7 @@ names_reads = 16393 * most_names
 abbrev pub named_at : Layout → ClassPlaces → Memory → CountedClass → HeapClass
 named_at l p m c = record { counted = c; name = class_at l p m c.class }
 
+-- a class's count without its name
 abbrev pub unnamed : CountedClass → HeapClass
 unnamed c = record { counted = c; name = None }
 

@@ -3,9 +3,11 @@
 use Rattle.std.specs.Prelude.{ℕ, ◌+◌, ◌-◌, ◌^◌, ◌++◌, min, List, map}
 use Rattle.gc_lists.specs.Lists.{Four}
 
+-- the address of the object behind a collector's head (`PyGC_Head`)
 abbrev pub object_at : (head_size member : ℕ) → ℕ
 object_at head_size member = min (member + head_size) (2 ^ 64 - 1)
 
+-- the addresses of the objects of a list
 abbrev pub objects_in : (head_size : ℕ) → List ℕ → List ℕ
 objects_in head_size members = map (λ a. object_at head_size a) members
 

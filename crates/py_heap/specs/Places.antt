@@ -13,6 +13,7 @@ use Rattle.py_records.specs.declared.types.HeapTypeRecord.{HeapTypeRecord}
 use Rattle.py_records.specs.declared.types.KlassRecord.{KlassRecord}
 use Rattle.py_heap.specs.declared.places.HeapPlaces.{HeapPlaces}
 
+-- where the numbers of the heap stand, where all of them are known
 abbrev pub places_by : Layout → Option ListPlaces → Option SizePlaces → Option KlassRecord → Option HeapTypeRecord
     → Option HeapPlaces
 places_by l (Some lists) (Some sizes) (Some klass) (Some heap_type) =
@@ -28,10 +29,12 @@ sizes_of sets major minor (Some heap_type) = size_places sets heap_type.cached_k
 abbrev pub small : ℕ → Option ℕ
 small n = if nat_lt n 65536 then Some n else None
 
+-- the same by the major and minor version
 abbrev pub places_of : Layout → Records → Option SetClasses → (major minor : Option ℕ) → Option HeapPlaces
 places_of l r sets (Some major) (Some minor) =
     places_by l (list_places major minor) (sizes_of sets major minor r.types.heap_type) r.types.klass r.types.heap_type
 places_of l r sets _ _ = None
 
+-- the same by the version
 abbrev pub heap_places : Version → Layout → Records → Option SetClasses → Option HeapPlaces
 heap_places v l r sets = places_of l r sets (small v.major) (small v.minor)

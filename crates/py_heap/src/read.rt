@@ -60,7 +60,7 @@ fn read_counted<P: ProcessMemory>(
 /// most bytes first, and the first 2,048 classes have their names. Where heads are to be checked and one isn't the head
 /// of a list, the answer is `NoLists` with the first such.
 ///
-/// The one error is want of memory. At most 25 reads of each object, 16393 for each name, and 21 more.
+/// The one error is out of memory. At most 25 reads of each object, 16393 for each name, and 21 more.
 pub fn read_heap<P: ProcessMemory>(
     alloc: Global,
     process: &mut P,

@@ -29,38 +29,47 @@ use Rattle.py_layout.specs.Keys.{Key}
 use Rattle.py_layout.specs.Words.{families_of}
 use Rattle.py_layout.specs.Values.{group_at, value_at, fits}
 
+-- whether `_Py_DebugOffsets` says where the newest interpreter's address stands
 abbrev pub is_offsets : Head → Bool
 is_offsets head.Offsets = true
 is_offsets _ = false
 
+-- whether the interpreter's own lock record names the holder
 abbrev pub is_gil : Lock → Bool
 is_gil lock.Gil = true
 is_gil _ = false
 
+-- whether a thread names its newest frame by a `_PyCFrame`
 abbrev pub is_cframe : Frames → Bool
 is_cframe frames.Cframe = true
 is_cframe _ = false
 
+-- whether a frame has its last instruction as an address
 abbrev pub is_pointer : Lasti → Bool
 is_pointer lasti.Pointer = true
 is_pointer _ = false
 
+-- whether texts have a state
 abbrev pub is_state : Strings → Bool
 is_state strings.State = true
 is_state _ = false
 
+-- whether dicts are read
 abbrev pub has_dicts : Dicts → Bool
 has_dicts dicts.Absent = false
 has_dicts _ = true
 
+-- whether the keys of a dict state how many slots there are
 abbrev pub is_general : Dicts → Bool
 is_general dicts.General = true
 is_general _ = false
 
+-- whether the keys of a dict state the size of the index and the kind of entry
 abbrev pub is_compact : Dicts → Bool
 is_compact dicts.Compact = true
 is_compact _ = false
 
+-- whether objects may have a managed dict
 abbrev pub has_managed : Managed → Bool
 has_managed managed.Absent = false
 has_managed _ = true
@@ -89,6 +98,7 @@ abbrev pub is_wrong : Families → Kind → Presence → Option Data → Bool
 is_wrong f kind presence None = must_be f presence
 is_wrong f kind presence (Some d) = may_be f presence && not (fits kind d)
 
+-- whether a key of a table is missing, has the wrong kind, or stands where its condition is not met
 abbrev pub is_flawed : Families → Members → Key → Bool
 is_flawed f ms key = is_wrong f key.kind key.presence (value_at ms key.group key.name)
 
@@ -97,6 +107,7 @@ abbrev pub path : Option (List ℕ) → List ℕ → List ℕ
 path None name = name
 path (Some group) name = group ++ (codes "." ++ name)
 
+-- whether two keys stand in one group, or both in none
 abbrev pub same_group : Option (List ℕ) → Option (List ℕ) → Bool
 same_group None None = true
 same_group (Some a) (Some b) = bytes_eq a b
@@ -106,6 +117,7 @@ same_group _ _ = false
 abbrev pub is_key : Families → Option (List ℕ) → List ℕ → Key → Bool
 is_key f group name key = same_group key.group group && bytes_eq key.name name && may_be f key.presence
 
+-- whether a layout has a key of this name in this group
 abbrev pub is_known : Families → List Key → Option (List ℕ) → List ℕ → Bool
 is_known f keys group name = list_any (is_key f group name) keys
 
@@ -129,6 +141,7 @@ unknown_by f keys ms name Group =
     option_map (path (Some name)) (option_and_then (unknown_in f keys (Some name)) (group_at ms name))
 unknown_by f keys ms name _ = None
 
+-- the first key that no layout has, at the top of a table or in the group that a key names
 abbrev pub unknown_at : Families → List Key → Members → Key → Option (List ℕ)
 unknown_at f keys ms key = unknown_by f keys ms key.name key.kind
 
@@ -139,5 +152,6 @@ flaw_by f keys ms =
     option_or (option_map (λ key. path key.group key.name) (find (is_flawed f ms) keys))
     (option_or (option_map (path None) (unknown_in f keys None ms)) (first_some (unknown_at f keys ms) keys))
 
+-- the path of the first flawed key of a table
 unfoldable pub table_flaw : List Key → Members → Option (List ℕ)
 table_flaw keys ms = flaw_by (families_of ms) keys ms

@@ -31,6 +31,7 @@ group name presence numbers =
     record { group = None; name = name; kind = Group; presence = presence }
     ∷ map (λ n. record { group = Some name; name = n.0; kind = Number; presence = n.1 }) numbers
 
+-- the keys of a layout that stand in no group, in the order in which they are looked at
 abbrev pub own_keys : List Key
 own_keys =
     own (codes "major") Version
@@ -48,6 +49,7 @@ own_keys =
     ∷ own (codes "managed") (Word Managed)
     ∷ []
 
+-- all keys of a layout, in the order in which they are looked at
 unfoldable pub the_keys : List Key
 the_keys = own_keys
     ++ (group (codes "interpreter") Always ((codes "threads", Always) ∷ (codes "modules", Always)

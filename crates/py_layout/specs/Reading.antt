@@ -23,6 +23,7 @@ use Rattle.py_fields.specs.declared.layout.GilAt.{GilAt}
 use Rattle.py_fields.specs.declared.layout.OffsetsAt.{OffsetsAt}
 use Rattle.py_fields.specs.declared.layout.Layout.{Layout}
 
+-- what a table says of the interpreter's record
 abbrev pub interpreter_from : Members → InterpreterAt
 interpreter_from ms = record {
   threads = number_at ms (Some (codes "interpreter")) (codes "threads");
@@ -30,6 +31,7 @@ interpreter_from ms = record {
   gil = optional_at ms (Some (codes "interpreter")) (codes "gil");
 }
 
+-- what a table says of a thread's record
 abbrev pub thread_from : Members → ThreadAt
 thread_from ms = record {
   size = number_at ms (Some (codes "thread")) (codes "size");
@@ -40,11 +42,13 @@ thread_from ms = record {
   native_id = optional_at ms (Some (codes "thread")) (codes "native_id");
 }
 
+-- what a table says of a `_PyCFrame`
 abbrev pub cframe_from : Members → CframeAt
 cframe_from ms = record {
   current = number_at ms (Some (codes "cframe")) (codes "current");
 }
 
+-- what a table says of a frame's record
 abbrev pub frame_from : Members → FrameAt
 frame_from ms = record {
   size = number_at ms (Some (codes "frame")) (codes "size");
@@ -56,6 +60,7 @@ frame_from ms = record {
   code_tag_bits = number_at ms (Some (codes "frame")) (codes "code_tag_bits");
 }
 
+-- what a table says of a code object
 abbrev pub code_from : Members → CodeAt
 code_from ms = record {
   size = number_at ms (Some (codes "code")) (codes "size");
@@ -69,6 +74,7 @@ code_from ms = record {
   start = optional_at ms (Some (codes "code")) (codes "start");
 }
 
+-- what a table says of a text's record
 abbrev pub string_from : Members → StringAt
 string_from ms = record {
   size = number_at ms (Some (codes "string")) (codes "size");
@@ -82,6 +88,7 @@ string_from ms = record {
   ascii_bit = optional_at ms (Some (codes "string")) (codes "ascii_bit");
 }
 
+-- what a table says of a bytes object
 abbrev pub bytes_from : Members → BytesAt
 bytes_from ms = record {
   size = number_at ms (Some (codes "bytes")) (codes "size");
@@ -89,6 +96,7 @@ bytes_from ms = record {
   at = number_at ms (Some (codes "bytes")) (codes "at");
 }
 
+-- what a table says of a tuple
 abbrev pub tuple_from : Members → TupleAt
 tuple_from ms = record {
   size = number_at ms (Some (codes "tuple")) (codes "size");
@@ -96,6 +104,7 @@ tuple_from ms = record {
   at = number_at ms (Some (codes "tuple")) (codes "at");
 }
 
+-- what a table says of a list
 abbrev pub list_from : Members → ListAt
 list_from ms = record {
   size = number_at ms (Some (codes "list")) (codes "size");
@@ -103,12 +112,14 @@ list_from ms = record {
   items = number_at ms (Some (codes "list")) (codes "items");
 }
 
+-- what a table says of the head of every object
 abbrev pub object_from : Members → ObjectAt
 object_from ms = record {
   size = number_at ms (Some (codes "object")) (codes "size");
   klass = number_at ms (Some (codes "object")) (codes "klass");
 }
 
+-- what a table says of a type's record
 abbrev pub klass_from : Members → KlassAt
 klass_from ms = record {
   size = number_at ms (Some (codes "klass")) (codes "size");
@@ -117,6 +128,7 @@ klass_from ms = record {
   dict_offset = number_at ms (Some (codes "klass")) (codes "dict_offset");
 }
 
+-- what a table says of an integer of any size
 abbrev pub long_from : Members → LongAt
 long_from ms = record {
   size = number_at ms (Some (codes "long")) (codes "size");
@@ -124,12 +136,14 @@ long_from ms = record {
   digits = number_at ms (Some (codes "long")) (codes "digits");
 }
 
+-- what a table says of a record with one value, a float or an integer of Python 2
 abbrev pub value_from : Members → List ℕ → ValueAt
 value_from ms group = record {
   size = number_at ms (Some group) (codes "size");
   value = number_at ms (Some group) (codes "value");
 }
 
+-- what a table says of a dict
 abbrev pub dict_from : Members → DictAt
 dict_from ms = record {
   size = number_at ms (Some (codes "dict")) (codes "size");
@@ -137,6 +151,7 @@ dict_from ms = record {
   values = number_at ms (Some (codes "dict")) (codes "values");
 }
 
+-- what a table says of the keys of a dict
 abbrev pub keys_from : Members → KeysAt
 keys_from ms = record {
   size = number_at ms (Some (codes "keys")) (codes "size");
@@ -146,6 +161,7 @@ keys_from ms = record {
   kind = optional_at ms (Some (codes "keys")) (codes "kind");
 }
 
+-- what a table says of a heap type
 abbrev pub heap_from : Members → HeapAt
 heap_from ms = record {
   size = number_at ms (Some (codes "heap")) (codes "size");
@@ -153,6 +169,7 @@ heap_from ms = record {
   inline = number_at ms (Some (codes "heap")) (codes "inline");
 }
 
+-- what a table says of the record of the interpreter lock
 abbrev pub gil_from : Members → GilAt
 gil_from ms = record {
   size = number_at ms (Some (codes "gil")) (codes "size");
@@ -160,6 +177,7 @@ gil_from ms = record {
   holder = number_at ms (Some (codes "gil")) (codes "holder");
 }
 
+-- what a table says of `_Py_DebugOffsets`
 abbrev pub offsets_from : Members → OffsetsAt
 offsets_from ms = record {
   size = number_at ms (Some (codes "offsets")) (codes "size");
@@ -170,6 +188,7 @@ offsets_from ms = record {
 abbrev pub has_group : Members → List ℕ → Bool
 has_group ms name = is_some (group_at ms name)
 
+-- the layout that a table says; a number that is missing is 0
 unfoldable pub layout_from : Members → Layout
 layout_from ms = record {
   major = number_at ms None (codes "major");

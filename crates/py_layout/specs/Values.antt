@@ -20,10 +20,12 @@ abbrev pub number_of_ℤ : ℤ → Option ℕ
 number_of_ℤ (pos n) = cond (nat_lt n (2 ^ 32)) (Some n) None
 number_of_ℤ _ = None
 
+-- the number that a value of TOML is, where it is a whole one of 0 or more
 abbrev pub number_of : Data → Option ℕ
 number_of (integer z) = number_of_ℤ z
 number_of _ = None
 
+-- whether a number of a version is there and below 1000
 abbrev pub is_version : Option ℕ → Bool
 is_version None = false
 is_version (Some n) = nat_lt n 1000
@@ -40,6 +42,7 @@ fits Group d = is_some (as_table d)
 abbrev pub optional_at : Members → Option (List ℕ) → List ℕ → Option ℕ
 optional_at ms group name = option_and_then number_of (value_at ms group name)
 
+-- the number of a key; 0 where there is none
 abbrev pub number_at : Members → Option (List ℕ) → List ℕ → ℕ
 number_at ms group name = unwrap_or (optional_at ms group name) 0
 

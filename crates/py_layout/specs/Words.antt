@@ -23,51 +23,60 @@ use Rattle.py_fields.specs.declared.layout.Dicts.TheVariants as dicts
 use Rattle.py_fields.specs.declared.layout.Managed.{Managed}
 use Rattle.py_fields.specs.declared.layout.Managed.TheVariants as managed
 
+-- the family that a word names, of where the newest interpreter's address stands
 abbrev pub head_of_word : List ℕ → Option Head
 head_of_word word =
     cond (bytes_eq word (codes "symbol")) (Some head.Symbol) (
     cond (bytes_eq word (codes "runtime")) (Some head.Runtime) (
     cond (bytes_eq word (codes "offsets")) (Some head.Offsets) (None)))
 
+-- the family that a word names, of what names the lock's holder
 abbrev pub lock_of_word : List ℕ → Option Lock
 lock_of_word word =
     cond (bytes_eq word (codes "symbol")) (Some lock.Symbol) (
     cond (bytes_eq word (codes "runtime")) (Some lock.Runtime) (
     cond (bytes_eq word (codes "gil")) (Some lock.Gil) (None)))
 
+-- the family that a word names, of how a thread names its newest frame
 abbrev pub frames_of_word : List ℕ → Option Frames
 frames_of_word word =
     cond (bytes_eq word (codes "direct")) (Some frames.Direct) (
     cond (bytes_eq word (codes "cframe")) (Some frames.Cframe) (None))
 
+-- the family that a word names, of how a frame has its last instruction
 abbrev pub lasti_of_word : List ℕ → Option Lasti
 lasti_of_word word =
     cond (bytes_eq word (codes "bytes")) (Some lasti.Bytes) (
     cond (bytes_eq word (codes "units")) (Some lasti.Units) (
     cond (bytes_eq word (codes "pointer")) (Some lasti.Pointer) (None)))
 
+-- the family that a word names, of the line table
 abbrev pub lines_of_word : List ℕ → Option Lines
 lines_of_word word =
     cond (bytes_eq word (codes "pairs")) (Some lines.Pairs) (
     cond (bytes_eq word (codes "ranges")) (Some lines.Ranges) (
     cond (bytes_eq word (codes "locations")) (Some lines.Locations) (None)))
 
+-- the family that a word names, of texts
 abbrev pub strings_of_word : List ℕ → Option Strings
 strings_of_word word =
     cond (bytes_eq word (codes "state")) (Some strings.State) (
     cond (bytes_eq word (codes "bytes")) (Some strings.Bytes) (None))
 
+-- the family that a word names, of integers
 abbrev pub integers_of_word : List ℕ → Option Integers
 integers_of_word word =
     cond (bytes_eq word (codes "signed")) (Some integers.Signed) (
     cond (bytes_eq word (codes "tagged")) (Some integers.Tagged) (None))
 
+-- the family that a word names, of dicts
 abbrev pub dicts_of_word : List ℕ → Option Dicts
 dicts_of_word word =
     cond (bytes_eq word (codes "none")) (Some dicts.Absent) (
     cond (bytes_eq word (codes "general")) (Some dicts.General) (
     cond (bytes_eq word (codes "compact")) (Some dicts.Compact) (None)))
 
+-- the family that a word names, of managed dicts
 abbrev pub managed_of_word : List ℕ → Option Managed
 managed_of_word word =
     cond (bytes_eq word (codes "none")) (Some managed.Absent) (
@@ -91,6 +100,7 @@ abbrev pub word_of : Data → List ℕ
 word_of (string word) = word
 word_of _ = codes ""
 
+-- the characters of a word; none where no value stands
 abbrev pub word_if : Option Data → List ℕ
 word_if None = codes ""
 word_if (Some d) = word_of d

@@ -60,6 +60,7 @@ parts_of low (negsuc n) = record {
 
 -- ---- entries
 
+-- so many equal entries of a line table, each of which covers so many bytes and steps by so many lines
 abbrev pub run_of : ℕ → ℕ → Option ℤ → Run
 run_of times covers delta = record { times = times; covers = covers; delta = delta }
 
@@ -81,6 +82,7 @@ piece_runs most len parts first later =
     ∷ run_of (wholes most len - 1) most later
     ∷ run_of 1 (rest_of most len) (if wholes most len == 0 then first else later) ∷ []
 
+-- no entry
 abbrev pub no_run : Run
 no_run = run_of 0 0 (Some (pos 0))
 
@@ -123,6 +125,7 @@ abbrev pub location_bytes : ℕ → Option ℤ → List ℕ
 location_bytes covers None = location_head 15 covers ∷ []
 location_bytes covers (Some d) = location_head 13 covers ∷ varint_bytes 5 (signed_code d)
 
+-- the bytes of an entry of a line table, by its family
 abbrev pub entry_bytes : LineFamily → ℕ → Option ℤ → List ℕ
 entry_bytes Pairs covers delta = covers ∷ delta_byte delta ∷ []
 entry_bytes Ranges covers delta = covers ∷ delta_byte delta ∷ []
@@ -133,15 +136,18 @@ unfoldable pub repeated : ℕ → List ℕ → List ℕ
 repeated zero bytes = []
 repeated (suc times) bytes = bytes ++ repeated times bytes
 
+-- the bytes of a run of equal entries
 abbrev pub run_bytes : LineFamily → Run → List ℕ
 run_bytes family r = repeated r.times (entry_bytes family r.covers r.delta)
 
+-- the bytes of runs, one after the other
 unfoldable pub runs_bytes : LineFamily → List Run → List ℕ
 runs_bytes family [] = []
 runs_bytes family (r ∷ rs) = run_bytes family r ++ runs_bytes family rs
 
 -- ---- the table
 
+-- the step from a line to the next one, which may be none
 abbrev pub delta_from : ℤ → Option ℤ → Option ℤ
 delta_from line None = None
 delta_from line (Some next) = Some (next -ℤ line)
@@ -214,6 +220,7 @@ IsNearDelta (Some d) = (negsuc (2 ^ 33) ≤ℤ d) × (d ≤ℤ pos (2 ^ 33))
 abbrev pub IsRun : LineFamily → Run → Type 0
 IsRun family r = 0 < r.times → IsPart family r.covers r.delta
 
+-- each run has entries that the family can write
 abbrev pub AreRuns : LineFamily → List Run → Type 0
 AreRuns family [] = Unit {0}
 AreRuns family (r ∷ rs) = IsRun family r × AreRuns family rs
@@ -229,6 +236,7 @@ abbrev pub IsLine : Option ℤ → Type 0
 IsLine None = Unit {0}
 IsLine (Some line) = FitsSigned w32 line
 
+-- each range's line is one that a table can tell
 abbrev pub AreLines : List LineRange → Type 0
 AreLines [] = Unit {0}
 AreLines (r ∷ rs) = IsLine r.line × AreLines rs

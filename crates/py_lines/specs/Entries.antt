@@ -17,6 +17,7 @@ use Rattle.py_lines.specs.Varint.{varint, signed_of}
 abbrev pub pair_of : (covers delta : ℕ) → Entry
 pair_of covers delta = record { size = 2; covers = covers; delta = Some (cast_signed w8 delta) }
 
+-- the first entry of a table of pairs of bytes (`co_lnotab`; `co_linetable` of 3.10)
 abbrev pub pair_entry : List ℕ → Option Entry
 pair_entry table = if nat_lt (length table) 2 then None else Some (pair_of (slice_index table 0) (slice_index table 1))
 
@@ -24,6 +25,7 @@ pair_entry table = if nat_lt (length table) 2 then None else Some (pair_of (slic
 abbrev pub no_line : ℤ
 no_line = negsuc 127
 
+-- a step of lines; -128 says that there is no line (PEP 626)
 abbrev pub delta_or_none : Option ℤ → Option ℤ
 delta_or_none None = None
 delta_or_none (Some d) = if int_eq d no_line then None else Some d
@@ -32,6 +34,7 @@ delta_or_none (Some d) = if int_eq d no_line then None else Some d
 abbrev pub without_line : Entry → Entry
 without_line e = record e { delta = delta_or_none e.delta }
 
+-- the first entry of the `co_linetable` of 3.10
 abbrev pub range_entry : List ℕ → Option Entry
 range_entry table = option_map without_line (pair_entry table)
 
@@ -88,6 +91,7 @@ first_entry Pairs table = pair_entry table
 first_entry Ranges table = range_entry table
 first_entry Locations table = location_entry table
 
+-- an entry, where there is one, and those behind it
 abbrev pub line_entries_from : Option Entry → (Entry → List Entry) → List Entry
 line_entries_from None rest = []
 line_entries_from (Some e) rest = e ∷ rest e
@@ -98,6 +102,7 @@ entries_within zero family table = []
 entries_within (suc most) family table =
     line_entries_from (first_entry family table) (λ e. entries_within most family (drop e.size table))
 
+-- the entries of a line table, by its family
 unfoldable pub entries_of : LineFamily → List ℕ → List Entry
 entries_of family table = entries_within (length table) family table
 

@@ -15,6 +15,7 @@ use Rattle.py_lines.specs.Entries.{entries_of}
 abbrev pub covered : List Entry → ℕ
 covered es = sum_by (λ e. e.covers) es
 
+-- a step of lines; 0 where there is none
 abbrev pub delta_of : Option ℤ → ℤ
 delta_of None = pos 0
 delta_of (Some d) = d
@@ -81,6 +82,7 @@ unfoldable pub line_among : List LineRange → ℕ → ℤ
 line_among [] offset = pos 0
 line_among (r ∷ rs) offset = if holds offset r then shown_line r.line else line_among rs offset
 
+-- the line of the range that holds an offset in bytes; 0 where none does
 abbrev pub line_of : List LineRange → ℤ → ℤ
 line_of rs (pos offset) = line_among rs offset
 line_of rs (negsuc n) = pos 0

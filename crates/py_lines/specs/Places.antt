@@ -16,6 +16,7 @@ line_with Pairs line delta = in_i32 line
 line_with Ranges line delta = option_and_then (λ d. in_i32 (line +ℤ d)) delta
 line_with Locations line delta = option_and_then (λ d. in_i32 (line +ℤ d)) delta
 
+-- the range of bytes that an entry covers, with its line
 abbrev pub line_range_at : LineFamily → Place → Entry → LineRange
 line_range_at family p e = record { start = p.start; end = p.start + e.covers; line = line_with family p.line e.delta }
 
@@ -29,6 +30,7 @@ last_at Pairs p = Some (record { start = p.start; end = 2 ^ 31; line = in_i32 p.
 last_at Ranges p = None
 last_at Locations p = None
 
+-- the last range, where there is one and it covers a byte
 abbrev pub kept_last : Option LineRange → List LineRange
 kept_last None = []
 kept_last (Some r) = kept r []

@@ -212,7 +212,7 @@ fn delta_from(line: i32, next: Option<i32>) -> Option<i64>
 /// 65536 bytes. It has the line of each range at each offset below the last end, and 0 where a range has none.
 ///
 /// It is `NotOrdered` exactly where a range can't stand where it does, and carries the index of the first such;
-/// else `TooLong` exactly where the table would have 65536 bytes or more, want of memory aside.
+/// else `TooLong` exactly where the table would have 65536 bytes or more, out of memory aside.
 pub fn encode(
     alloc: Global,
     family: LineFamily,

@@ -31,6 +31,7 @@ use Rattle.py_names.specs.Typed.{plain_slots, typed_slots}
 abbrev pub slot_limit : ℕ
 slot_limit = 65536
 
+-- a thread's id and name
 abbrev pub named_thread : ℕ → List ℕ → Named
 named_thread id name = record { id = id; name = name }
 
@@ -54,6 +55,7 @@ entry_in l m key value left = do
   name ← given_name_at l m (cast_unsigned w64 id.0) search.found
   Ok (given name search.left)
 
+-- the thread of an entry of `threading._active`, with its name
 unfoldable pub thread_in : Layout → Memory → ℕ → Slot → Found Given
 thread_in l m left Empty = Ok (given None left)
 thread_in l m left (Entry key value) = entry_in l m key value left
@@ -62,6 +64,7 @@ thread_in l m left (Entry key value) = entry_in l m key value left
 unfoldable pub thread_at : Layout → Memory → Slots → ℕ → ℕ → Found Given
 thread_at l m s number left = slot_at m s number >>= thread_in l m left
 
+-- a name in a list; nothing where there is none
 abbrev pub kept_name : Option Named → List Named
 kept_name None = []
 kept_name (Some n) = n ∷ []
@@ -99,6 +102,7 @@ interpreter_names_at l m interpreter = do
   search ← find_from l m (codes "threading") slots slots.count 0 slot_limit
   module_names_at l m search.found search.left
 
+-- the names by the family of dicts; without dicts there are none
 abbrev pub names_by : Dicts → Found (List Named) → Found (List Named)
 names_by Absent names = Err NoDicts
 names_by General names = names
@@ -117,14 +121,17 @@ thread_slots l m key value = do
   t ← type_at l m value
   typed_slots l m value t
 
+-- how many slots are looked at for the name of an entry
 unfoldable pub entry_looked : Layout → Memory → ℕ → ℕ → ℕ → ℕ
 entry_looked l m key value left =
     looked_in (thread_slots l m key value) (λ slots. find_looked l m (codes "_name") slots slots.count 0 left)
 
+-- how many slots are looked at for the name in a slot
 abbrev pub slot_looked : Layout → Memory → ℕ → Slot → ℕ
 slot_looked l m left Empty = 0
 slot_looked l m left (Entry key value) = entry_looked l m key value left
 
+-- how many slots are looked at for the name of the thread of this number
 unfoldable pub thread_looked : Layout → Memory → Slots → ℕ → ℕ → ℕ
 thread_looked l m s number left = looked_in (slot_at m s number) (slot_looked l m left)
 
@@ -135,11 +142,13 @@ each_looked l m s (suc n) number zero = 0
 each_looked l m s (suc n) number (suc left) = 1 + (thread_looked l m s number left
     + looked_in (thread_at l m s number left) (λ thread. each_looked l m s n (number + 1) thread.left))
 
+-- how many slots are looked at for the names in `threading._active`
 unfoldable pub threads_looked : Layout → Memory → Option ℕ → ℕ → ℕ
 threads_looked l m None left = 0
 threads_looked l m (Some dict) left =
     looked_in (dict_slots l m dict) (λ slots. each_looked l m slots slots.count 0 left)
 
+-- the slots of a module's dict
 unfoldable pub module_slots : Layout → Memory → ℕ → Found Slots
 module_slots l m a = type_at l m a >>= plain_slots l m a
 
@@ -148,11 +157,13 @@ abbrev pub search_looked : Layout → Memory → List ℕ → ℕ → (Option �
 search_looked l m name left behind slots = find_looked l m name slots slots.count 0 left
     + looked_in (find_from l m name slots slots.count 0 left) (λ search. behind search.found search.left)
 
+-- how many slots are looked at in a module
 unfoldable pub module_looked : Layout → Memory → Option ℕ → ℕ → ℕ
 module_looked l m None left = 0
 module_looked l m (Some a) left =
     looked_in (module_slots l m a) (search_looked l m (codes "_active") left (threads_looked l m))
 
+-- the slots of an interpreter's dict of modules (`sys.modules`)
 unfoldable pub modules_slots : Layout → Memory → ℕ → Found Slots
 modules_slots l m interpreter = word_at m (interpreter + l.interpreter.modules) >>= dict_slots l m
 
@@ -171,11 +182,12 @@ name_under names id = option_map (λ n. n.name) (find (λ n. n.id == id) (revers
 abbrev pub HasNames : BTreeMap ℕ (List ℕ) → List Named → Type 0
 HasNames names list = (id : ℕ) → get nat_cmp names id ≡ name_under list id
 
+-- the names of threads are those of memory
 abbrev pub NamesAre : Found (List Named) → Result (BTreeMap ℕ (List ℕ)) NamesError → Type 0
 NamesAre d (Ok names) = IsOkAnd d (HasNames names)
 NamesAre d (Err e) = FaultIs d (names_fault e)
 
--- a map of the names that are found, or their fault; want of memory is free
+-- a map of the names that are found, or their fault; out of memory is free
 pub record AnswersNames (d : Found (List Named)) (result : Result (BTreeMap ℕ (List ℕ)) NamesError) : Type 0 where
   pub is : NamesAre d result
 

@@ -27,6 +27,7 @@ named_value_at l m name s number = slot_at m s number >>= value_named l m name
 abbrev pub looked : Option ℕ → ℕ → Looked
 looked found left = record { found = found; left = left }
 
+-- a value that was found, else the rest of the search
 abbrev pub or_go_on : Option ℕ → ℕ → Found Looked → Found Looked
 or_go_on None left rest = rest
 or_go_on (Some value) left rest = Ok (looked (Some value) left)

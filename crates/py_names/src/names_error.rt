@@ -15,7 +15,7 @@ pub enum NamesError {
     /// 65536 slots of dicts were looked at, and there is another.
     #[error("more than 65536 slots")]
     Entries,
-    /// An object on the way can't be read. It is never for want of memory, which has a variant of its own.
+    /// An object on the way can't be read. It is never for out of memory, which has a variant of its own.
     #[error("{0}")]
     Object(ObjectError),
     /// There was no memory left.

@@ -68,7 +68,7 @@ fn read_value<P: ProcessMemory>(
 ///
 /// The dict is one of which no slot was passed. `Entries` comes where so many slots were looked at, empty ones too,
 /// and there is another. `Object` has the first fault of a slot or of a key on the way: a part that is not in memory,
-/// or a key that is no text. Else it is want of memory, `OutOfMemory`, which `Object` never holds. At most 4 reads
+/// or a key that is no text. Else it is out of memory, `OutOfMemory`, which `Object` never holds. At most 4 reads
 /// for each slot that is looked at.
 pub fn find_in<P: ProcessMemory>(
     alloc: Global,

@@ -37,6 +37,7 @@ scalar_named name =
     if bytes_eq name (codes "numpy.float32") then Some F32 else
     if bytes_eq name (codes "numpy.float64") then Some F64 else None
 
+-- the kind of one of numpy's numbers; Other where the name is none of theirs
 abbrev pub scalar_kind : Option Scalar → Kind
 scalar_kind None = Other
 scalar_kind (Some s) = Number s

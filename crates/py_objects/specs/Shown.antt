@@ -8,6 +8,7 @@ use Rattle.process_memory.specs.Seen.{AnswerIs}
 abbrev pub Shown : Type 0 → Type 0
 Shown T = ℕ → Found T × ℕ
 
+-- goes on with a value and the visits so far; a fault ends it
 abbrev pub goes_on_shown : {T U : Type 0} → Found T × ℕ → (T → Shown U) → Found U × ℕ
 goes_on_shown (Ok x, v) f = f x v
 goes_on_shown (Err e, v) f = (Err e, v)
@@ -29,15 +30,17 @@ consult d = λ v. (d, v)
 unfoldable pub visit : Shown (Unit {0})
 visit = λ v. if nat_lt v 4096 then (Ok tt, v + 1) else (Err Visits, v)
 
+-- the visits that are told: all at a fault, and at most all where memory is lacking
 abbrev pub CountOf : Option Fault → ℕ → ℕ → Type 0
 CountOf None v n = n ≤ v
 CountOf (Some f) v n = n ≡ v
 
+-- the visits that a result tells: all of them, but where memory is lacking
 abbrev pub CountIs : {T E : Type 0} → (E → Option Fault) → Result T E → ℕ → ℕ → Type 0
 CountIs fault (Ok x) v n = n ≡ v
 CountIs fault (Err e) v n = CountOf (fault e) v n
 
--- a result and a count are what the definition says. Want of memory is free, and leaves a part of the count
+-- a result and a count are what the definition says. Out of memory is free, and leaves a part of the count
 pub record TellsShown {T E : Type 0} (fault : E → Option Fault) (definition : Found T × ℕ) (result : Result T E)
     (visits : ℕ) : Type 0 where
   pub answer : AnswerIs fault definition.0 result

@@ -26,6 +26,7 @@ before_nul (b ∷ bs) = if b == 0 then [] else b ∷ before_nul bs
 unfoldable pub text_or : List ℕ → Fault → Found (List ℕ)
 text_or bytes f = if is_utf8 bytes then Ok bytes else Err f
 
+-- the word of a Bool, which is an integer above 0 or not
 abbrev pub truth_of : ℤ → List ℕ
 truth_of (pos zero) = codes "False"
 truth_of (pos (suc n)) = codes "True"
@@ -40,6 +41,7 @@ abbrev pub bigint_text : ℤ → List ℕ
 bigint_text (pos n) = codes "+bigint"
 bigint_text (negsuc n) = codes "-bigint"
 
+-- the text of an integer: of up to two digits its number, else that it is a big one
 abbrev pub long_text : List ℕ → ℤ × Bool → List ℕ
 long_text name (z, true) = bigint_text z
 long_text name (z, false) = number_text name z

@@ -32,6 +32,7 @@ pub record Source (V P : Type 0) : Type 0 where
   pub node : V → Found (Node P)
   pub child : P → ℕ → Found (Child V)
 
+-- texts behind another one, each after a comma and a blank
 unfoldable pub joined_after : List (List ℕ) → List ℕ
 joined_after [] = []
 joined_after (t ∷ ts) = codes ", " ++ t ++ joined_after ts
@@ -41,20 +42,24 @@ unfoldable pub joined : List (List ℕ) → List ℕ
 joined [] = []
 joined (t ∷ ts) = t ++ joined_after ts
 
+-- the opening bracket
 abbrev pub opening : Brackets → List ℕ
 opening Square = codes "["
 opening Round = codes "("
 opening Curly = codes "{"
 
+-- the closing bracket
 abbrev pub closing : Brackets → List ℕ
 closing Square = codes "]"
 closing Round = codes ")"
 closing Curly = codes "}"
 
+-- what stands before a part: nothing before the first, else a comma and a blank
 abbrev pub separator : Bool → List ℕ
 separator true = []
 separator false = codes ", "
 
+-- texts in brackets, with a comma and a blank between them
 unfoldable pub enclosed : Brackets → List (List ℕ) → List ℕ
 enclosed b ts = opening b ++ joined ts ++ closing b
 
@@ -105,6 +110,7 @@ parts_shown s show b n parts w = do
   ts ← parts_at (part_at s show b parts) n 0 w
   give (enclosed b ts)
 
+-- what a node shows as within so many characters
 unfoldable pub node_shown : {V P : Type 0} → Source V P → (ℕ → V → Shown (List ℕ)) → ℕ → Node P → Shown (List ℕ)
 node_shown s show w (Whole t) = give t
 node_shown s show w (Quoted t) = give (quoted (w - 5) t)
@@ -125,12 +131,13 @@ show_at s (suc levels) w a = if nat_le w 5 then give dots else do
 abbrev pub Shows : {V P : Type 0} → Source V P → V → ℕ → ℕ → ℕ → Found (List ℕ) → ℕ → Type 0
 Shows s a width level before out after = show_at s (257 - level) width a before ≡ (out, after)
 
+-- a fault that is told is the definition's; where none is told, at most its visits were made
 abbrev pub FaultShows : {V P : Type 0} → Source V P → V → ℕ → ℕ → Option Fault → ℕ → Type 0
 FaultShows s a width before None visits =
     (out : Found (List ℕ)) × (after : ℕ) × Shows s a width 1 before out after × (visits ≤ after)
 FaultShows s a width before (Some f) visits = Shows s a width 1 before (Err f) visits
 
--- an answer and a count are what the value shows. Want of memory is free, and leaves a part of the visits
+-- an answer and a count are what the value shows. Out of memory is free, and leaves a part of the visits
 abbrev pub AnswerShows : {V P E : Type 0} → (E → Option Fault) → Source V P → V → ℕ → ℕ → Result (List ℕ) E → ℕ
     → Type 0
 AnswerShows fault s a width before (Ok text) visits = Shows s a width 1 before (Ok text) visits
@@ -141,14 +148,17 @@ abbrev pub width_of : ℤ → ℕ
 width_of (pos n) = n
 width_of (negsuc n) = 0
 
+-- a result with the bytes of its text
 abbrev pub text_of : {E : Type 0} → Result (String Global) E → Result (List ℕ) E
 text_of (Ok t) = Ok (string_bytes t)
 text_of (Err e) = Err e
 
+-- the bytes of a text, where there is one
 abbrev pub maybe_of : Option (String Global) → Option (List ℕ)
 maybe_of None = None
 maybe_of (Some t) = Some (string_bytes t)
 
+-- a result with the bytes of a text, where there is one
 abbrev pub part_of : {E : Type 0} → Result (Option (String Global)) E → Result (Option (List ℕ)) E
 part_of (Ok o) = Ok (maybe_of o)
 part_of (Err e) = Err e

@@ -50,7 +50,7 @@ const NARROW: u64 = 5;
 /// `BadCount`, another byte than 0 and 1 of a truth value `BadBool`; texts and dicts have their own errors. The
 /// first of them, in the order of the parts, is the answer.
 ///
-/// `visits` goes on from what it was; after an error it counts the visits up to it, and after want of memory a
+/// `visits` goes on from what it was; after an error it counts the visits up to it, and after out of memory a
 /// part of them. At most 8 reads a visit.
 pub fn format_variable<P: ProcessMemory>(
     alloc: Global,

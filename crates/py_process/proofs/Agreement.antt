@@ -1,11 +1,11 @@
--- Steps of which each has one right answer, want of memory aside.
+-- Steps of which each has one right answer, out of memory aside.
 use Rattle.std.proofs.Common.{◌≡◌, ◌⊎◌, refl, sym, ap, subst, ◌∙◌, inl, inr}
 use Rattle.std.specs.Prelude.{Result, Ok, Err}
 use Rattle.py_process.specs.Steps.{Then}
 use Rattle.py_process.specs.declared.core_error.CoreError.{CoreError}
 use Rattle.py_process.specs.declared.core_error.CoreError.TheVariants as core
 
--- an answer that isn't want of memory
+-- an answer that isn't out of memory
 abbrev pub IsKept : {T : Type 0} → Result T CoreError → Type 0
 IsKept r = ¬ (r ≡ Err core.OutOfMemory)
 
@@ -57,7 +57,7 @@ then_value First Rest first x right r kept (inl (e, one, is)) =
 then_value First Rest first x right r kept (inr (y, one, rest)) =
     subst (λ z. Rest z r) (ok_is y x (first (Ok y) (Ok x) one right (ok_kept y) (ok_kept x))) rest
 
--- an answer is want of memory, or it is not
+-- an answer is out of memory, or it is not
 pub kept_or : {T : Type 0} (r : Result T CoreError) → (r ≡ Err core.OutOfMemory) ⊎ IsKept r
 kept_or (Ok x) = inr (ok_kept x)
 kept_or (Err core.OutOfMemory) = inl refl

@@ -106,7 +106,7 @@ module _ (m : Memory) (f : Finding) (config : Config) where
   pub stacks_agree : Agree (StacksSay m f config)
   stacks_agree a b one two na nb = stack_one a b (stack_cause a one na) (stack_cause b two nb)
 
-  -- where no fault is met and nothing else is asked for, an error is want of memory
+  -- where no fault is met and nothing else is asked for, an error is out of memory
   pub stacks_only : AsksNoOther config → fault_on m f config ≡ None → (e : CoreError) → StacksSay m f config (Err e)
       → IsKept {T = List Trace} (Err e) → ⊥
   stacks_only asks none e h kept = by (stack_cause (Err e) h kept)

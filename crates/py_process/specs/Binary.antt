@@ -10,6 +10,7 @@ use Rattle.py_process.specs.Ranges.{AreRanges}
 use Rattle.py_process.specs.Refusals.{HasBoth, HasRanges}
 use Rattle.py_process.specs.SymbolMap.{AreAddresses, address_in}
 
+-- where an image is mapped, how far it was moved, and where its bss ends
 abbrev pub place_of : (addr size : ℕ) → Ranges → Place
 place_of addr size ranges = record {
   addr = addr;

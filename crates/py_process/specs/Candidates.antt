@@ -40,6 +40,7 @@ head_by_offsets o m runtime = do
   offsets ← record_at m runtime o.size
   word_at m (runtime + u64_in offsets o.head)
 
+-- the head by the offsets in the runtime's own record, where the layout has them
 abbrev pub head_where : Option OffsetsAt → Option ℕ → Memory → List ℕ
 head_where None runtime m = []
 head_where (Some o) runtime m = at_symbol runtime (head_by_offsets o m)
@@ -66,6 +67,7 @@ words_of (a ∷ b ∷ c ∷ d ∷ e ∷ f ∷ g ∷ h ∷ rest) =
     from_le_bytes w64 (a ∷ b ∷ c ∷ d ∷ e ∷ f ∷ g ∷ h ∷ []) ∷ words_of rest
 words_of _ = []
 
+-- the words of the bytes that were found; none where they aren't in memory
 abbrev pub words_in : Found (List ℕ) → List ℕ
 words_in (Ok bytes) = words_of bytes
 words_in (Err missing) = []
@@ -83,6 +85,7 @@ abbrev pub words_of_facts : Memory → Facts → List ℕ
 words_of_facts m facts = runtime_words m facts.pyruntime_addr facts.pyruntime_size
     ++ section_words m facts.bss_addr facts.bss_size
 
+-- the words of an image that may be missing
 abbrev pub words_of_image : Memory → Option Facts → List ℕ
 words_of_image m None = []
 words_of_image m (Some facts) = words_of_facts m facts
@@ -120,10 +123,12 @@ IsNoneOf contains l m candidates = All (λ a. ¬ IsInterpreterIn contains l m a)
 
 -- ---- the same test, as it is made
 
+-- whether the first thread's address was found and a map holds it
 abbrev pub head_lies : (ℕ → Bool) → Found ℕ → Bool
 head_lies contains (Ok head) = contains head
 head_lies contains (Err fault) = false
 
+-- whether an address passes for an interpreter's, and maps hold it and its first thread
 unfoldable pub passes_in : (ℕ → Bool) → Layout → Memory → ℕ → Bool
 passes_in contains l m a = contains a && (head_lies contains (threads_head l m a) && passes l m a)
 
@@ -131,13 +136,13 @@ passes_in contains l m a = contains a && (head_lies contains (threads_head l m a
 unfoldable pub interpreter_of : (ℕ → Bool) → Known → Version → Layout → Memory → Option ℕ
 interpreter_of contains k v l m = find (passes_in contains l m) (candidates_of k v l m)
 
--- a result is the first candidate that passes; want of memory may always be answered
+-- a result is the first candidate that passes; out of memory may always be answered
 abbrev pub FirstIs : Option ℕ → Result ℕ SearchError → Type 0
 FirstIs first (Ok addr) = first ≡ Some addr
 FirstIs first (Err NotFound) = first ≡ None
 FirstIs first (Err OutOfMemory) = ⊤
 
--- `NotFound` comes exactly where no candidate passes, want of memory aside
+-- `NotFound` comes exactly where no candidate passes, out of memory aside
 abbrev pub NotFoundWhere : Type 0 → Result ℕ SearchError → Type 0
 NotFoundWhere Nothing (Ok addr) = ¬ Nothing
 NotFoundWhere Nothing (Err NotFound) = Nothing
@@ -177,7 +182,7 @@ Searching contains k v l old new Q =
 
 -- ---- what the readers on the way answer
 
--- a reader of the search answers a value; want of memory may always be answered
+-- a reader of the search answers a value; out of memory may always be answered
 abbrev pub SearchIs : {T : Type 0} → T → Result T SearchError → Type 0
 SearchIs value (Ok answer) = value ≡ answer
 SearchIs value (Err NotFound) = ⊥

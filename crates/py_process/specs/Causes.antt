@@ -19,6 +19,7 @@ use Rattle.py_process.specs.declared.search_error.SearchError.TheVariants as sea
 use Rattle.py_process.specs.declared.version_error.VersionError.{VersionError}
 use Rattle.py_process.specs.declared.version_error.VersionError.TheVariants as version
 
+-- why bytes are no core, as a cause
 abbrev pub cause_of_dump : DumpError → CoreError
 cause_of_dump dump.NotElf64 = NotElf64
 cause_of_dump dump.BadHeader = BadHeader
@@ -26,6 +27,7 @@ cause_of_dump dump.NoNotes = NoNotes
 cause_of_dump dump.BadNote = BadNote
 cause_of_dump dump.OutOfMemory = OutOfMemory
 
+-- why there are no stacks, as a cause
 abbrev pub cause_of_stacks : StackError → CoreError
 cause_of_stacks (stack.Unreadable addr len) = Unreadable addr len
 cause_of_stacks (stack.BadValue frame) = BadValue frame
@@ -35,11 +37,13 @@ cause_of_stacks stack.FrameLimit = FrameLimit
 cause_of_stacks stack.ChainLimit = ChainLimit
 cause_of_stacks stack.OutOfMemory = OutOfMemory
 
+-- why there is no version, as a cause
 abbrev pub cause_of_version : VersionError → CoreError
 cause_of_version (version.Unreadable addr len) = UnreadableVersion addr len
 cause_of_version version.NotFound = NoVersion
 cause_of_version version.OutOfMemory = OutOfMemory
 
+-- why there is no interpreter, as a cause
 abbrev pub cause_of_search : SearchError → CoreError
 cause_of_search search.NotFound = NoInterpreter
 cause_of_search search.OutOfMemory = OutOfMemory

@@ -6,6 +6,7 @@ use Rattle.py_process.specs.declared.binary.BinaryInfo.{BinaryInfo}
 use Rattle.py_process.specs.declared.process_info.PythonProcessInfo.{PythonProcessInfo}
 use Rattle.py_process.specs.SymbolMap.{address_in}
 
+-- what an image says of the process: the addresses of its symbols, and where its sections and itself are mapped
 pub record Facts : Type 0 where
   -- the address of each symbol, by its name
   pub symbols : List ℕ → Option ℕ
@@ -16,6 +17,7 @@ pub record Facts : Type 0 where
   pub addr : ℕ
   pub size : ℕ
 
+-- the facts of a binary, in plain terms
 abbrev pub facts_of : BinaryInfo → Facts
 facts_of info = record {
   symbols = address_in info.symbols;
@@ -35,6 +37,7 @@ pub record Known : Type 0 where
   -- the path of the program
   pub path : List ℕ
 
+-- what an opened process has of its images, in plain terms
 abbrev pub known_of : {M : Type 0} → PythonProcessInfo M → Known
 known_of info = record {
   program = option_map facts_of info.python_binary;
@@ -42,6 +45,7 @@ known_of info = record {
   path = info.python_filename;
 }
 
+-- the address of a symbol of an image that may be missing
 abbrev pub symbol_of : Option Facts → List ℕ → Option ℕ
 symbol_of None symbol = None
 symbol_of (Some facts) symbol = facts.symbols symbol

@@ -8,6 +8,7 @@ use Rattle.std.specs.Str.Parse.{digits_value}
 use Rattle.py_fields.specs.Version.{is_dot, release}
 use Rattle.py_fields.specs.declared.version.Version.{Version}
 
+-- whether a character is `/`
 abbrev pub is_slash : ℕ → Bool
 is_slash c = c == 47
 

@@ -71,6 +71,7 @@ pub record Finding : Type 0 where
   pub layout : Layout
   pub addresses : Addresses
 
+-- a finding of these parts
 abbrev pub finding : Version → Layout → (interpreter lock : ℕ) → Finding
 finding version layout interpreter lock =
     record { version = version; layout = layout; addresses = record { interpreter = interpreter; lock = lock } }
@@ -83,9 +84,11 @@ LockSays m machine k version layout a (Err (Unreadable addr len)) =
 LockSays m machine k version layout a (Err OutOfMemory) = ⊤
 LockSays m machine k version layout a (Err _) = ⊥
 
+-- a result is the finding of these parts
 abbrev pub IsMade : Version → Layout → (interpreter lock : ℕ) → Result Finding CoreError → Type 0
 IsMade version layout interpreter lock result = result ≡ Ok (finding version layout interpreter lock)
 
+-- what is found where the interpreter is known: its lock, or the cause why there is none
 abbrev pub AfterSearch : Memory → Machine → Known → Version → Layout → ℕ → Result Finding CoreError → Type 0
 AfterSearch m machine k version layout a = Then (LockSays m machine k version layout a) (IsMade version layout a)
 
@@ -105,6 +108,7 @@ FindingIs m machine maps images layouts = ProcessThen m maps images layouts (Fin
 
 -- ---- the same where something is found, in one record
 
+-- a process in which this is found, each part the first that qualifies
 pub record IsFound (m : Memory) (machine : Machine) (maps : List CoreMapRange) (images : Pushed)
     (layouts : List Layout) (f : Finding) : Type 0 where
   pub programs : Programs

@@ -8,11 +8,13 @@ use Rattle.std.specs.Str.{IsUtf8}
 abbrev pub IsDigit : ℕ → Type 0
 IsDigit c = IsTrue (is_ascii_digit c)
 
+-- at most one character, which is an ASCII digit
 abbrev pub IsDigitOrNone : List ℕ → Type 0
 IsDigitOrNone [] = Unit {0}
 IsDigitOrNone (c ∷ []) = IsDigit c
 IsDigitOrNone (c ∷ d ∷ more) = ⊥
 
+-- the letter of a build's flag, or nothing: `m` pymalloc, `d` debug, `u` wide Unicode
 abbrev pub IsFlagOrNone : List ℕ → Type 0
 IsFlagOrNone text = (text ≡ []) ⊎ (text ≡ codes "m") ⊎ (text ≡ codes "d") ⊎ (text ≡ codes "u")
 

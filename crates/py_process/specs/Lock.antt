@@ -36,6 +36,7 @@ lock_by Gil machine k v l m a = lock_word m a l.interpreter.gil
 lock_by Runtime machine k v l m a = in_runtime (symbol_known k (codes "_PyRuntime")) (tstate_current_offset machine v)
 lock_by Symbol machine k v l m a = option_map (λ addr. Ok addr) (symbol_known k (codes "_PyThreadState_Current"))
 
+-- the lock's address by a layout; nothing where a symbol or an offset is missing
 unfoldable pub lock_found : Machine → Known → Version → Layout → Memory → ℕ → Option (Found ℕ)
 lock_found machine k v l m a = lock_by l.lock machine k v l m a
 
@@ -49,7 +50,7 @@ pub record LacksLock (config : Config) (found : Option (Found ℕ)) : Type 0 whe
   pub none : found ≡ None
 
 -- a result is the lock's address, or its missing word, or that there is none where the holder alone is asked for;
--- want of memory may always be answered
+-- out of memory may always be answered
 abbrev pub LockIs : Config → Option (Found ℕ) → Result ℕ LockError → Type 0
 LockIs config found (Ok addr) = (unwrap_or found (Ok 0) ≡ Ok addr) × ¬ LacksLock config found
 LockIs config found (Err (Unreadable addr len)) = found ≡ Some (Err (Missing addr len))

@@ -9,6 +9,7 @@ use Rattle.py_fields.specs.Version.{is_dot, release}
 use Rattle.py_fields.specs.declared.version.Version.{Version}
 use Rattle.py_process.specs.FileVersions.{behind_front, decimal_of, is_slash}
 
+-- a major and a minor number, where both are there
 abbrev pub both_numbers : Option ℕ → Option ℕ → Option (ℕ × ℕ)
 both_numbers (Some major) (Some minor) = Some (major, minor)
 both_numbers _ _ = None
@@ -24,6 +25,7 @@ abbrev pub first_numbers : List (List ℕ) → Option (ℕ × ℕ)
 first_numbers (major ∷ minor ∷ rest) = both_numbers (decimal_of major) (decimal_of (without_m minor))
 first_numbers _ = None
 
+-- the numbers of the first two parts of a text between dots
 abbrev pub numbers_in : List ℕ → Option (ℕ × ℕ)
 numbers_in text = first_numbers (slice_split is_dot text)
 
@@ -41,6 +43,7 @@ name_numbers path = library_or_program (after_last is_slash path)
 abbrev pub map_numbers : CoreMapRange → Option (ℕ × ℕ)
 map_numbers map = option_and_then name_numbers map.pathname
 
+-- a list with these numbers before it, where there are some
 abbrev pub with_numbers : Option (ℕ × ℕ) → List (ℕ × ℕ) → List (ℕ × ℕ)
 with_numbers None rest = rest
 with_numbers (Some numbers) rest = numbers ∷ rest
@@ -50,6 +53,7 @@ unfoldable pub numbers_told : List CoreMapRange → List (ℕ × ℕ)
 numbers_told [] = []
 numbers_told (map ∷ rest) = with_numbers (map_numbers map) (numbers_told rest)
 
+-- whether two pairs of a major and a minor number are the same
 abbrev pub same_numbers : ℕ × ℕ → ℕ × ℕ → Bool
 same_numbers one other = nat_eq one.0 other.0 && nat_eq one.1 other.1
 
@@ -60,6 +64,7 @@ the_only (one ∷ rest) = if list_all (same_numbers one) rest then Some one else
 
 -- ---- as they are read
 
+-- whether numbers differ from those that were told before, if some were
 abbrev pub differs : Option (ℕ × ℕ) → ℕ × ℕ → Bool
 differs None numbers = false
 differs (Some one) numbers = not (same_numbers one numbers)

@@ -44,6 +44,7 @@ pub record Programs : Type 0 where
   pub program : CoreMapRange
   pub library : Option CoreMapRange
 
+-- the first executable map whose file has a name, and the first of Python's library
 pub record ArePrograms (maps : List CoreMapRange) (p : Programs) : Type 0 where
   pub first_program : IsFirstMap IsProgram maps p.program
   pub first_library : FirstMapIs IsLibraryMap maps p.library
@@ -57,6 +58,7 @@ MapsSay maps (Err _) = ⊥
 
 -- ---- what their images say
 
+-- the path of a map's file; empty where it has none
 abbrev pub path_of : CoreMapRange → List ℕ
 path_of m = unwrap_or m.pathname []
 

@@ -12,6 +12,7 @@ use Rattle.elf64_core.specs.declared.segment.Segment.{Segment}
 use Rattle.py_process.specs.declared.ranges.BssRange.{BssRange}
 use Rattle.py_process.specs.declared.ranges.Ranges.{Ranges}
 
+-- the greatest address, 2^64 - 1
 abbrev pub last_address : ℕ
 last_address = 2 ^ 64 - 1
 
@@ -20,6 +21,7 @@ abbrev pub is_section_named : List ℕ → Option (List ℕ) → Bool
 is_section_named wanted None = false
 is_section_named wanted (Some name) = pointwise nat_eq name wanted
 
+-- whether a section is named `.bss`, or has no readable name
 abbrev pub is_bss_name : Option (List ℕ) → Bool
 is_bss_name None = true
 is_bss_name (Some name) = pointwise nat_eq name (codes ".bss")
@@ -47,10 +49,11 @@ abbrev pub larger : Option Section → Section → Section
 larger None section = section
 larger (Some best) section = if nat_lt section.size best.size then best else section
 
--- the first load segment that is executable
+-- whether a segment is loadable and executable
 abbrev pub is_executable : Segment → Bool
 is_executable segment = nat_eq segment.kind load_kind && nat_eq (segment.flags % 2) 1
 
+-- the first load segment of an image that is executable
 abbrev pub executable_of : List ℕ → Option Segment
 executable_of bytes = find is_executable (segments_of bytes)
 
@@ -66,10 +69,11 @@ bss_range bss offset =
     else (if nat_lt last_address (bss.addr + offset + bss.size) then None
     else Some (record { addr = bss.addr + offset; size = bss.size; end = bss.addr + bss.size }))
 
--- the first section of the runtime's name
+-- whether a section has the runtime's name
 abbrev pub is_runtime : List ℕ → Section → Bool
 is_runtime bytes section = is_section_named (codes ".PyRuntime") (section_name_of bytes section)
 
+-- the first section of an image that is named `.PyRuntime`
 abbrev pub runtime_section : List ℕ → Option Section
 runtime_section bytes = find (is_runtime bytes) (sections_of bytes)
 

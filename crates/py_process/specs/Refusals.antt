@@ -33,7 +33,7 @@ pub record HasBadBss (bytes : List ℕ) (addr : ℕ) : Type 0 where
   pub is_segment : executable_of bytes ≡ Some segment
   pub past : bss_range bss (moved_by addr segment) ≡ None
 
--- why there are no ranges; want of memory may always be answered
+-- why there are no ranges; out of memory may always be answered
 abbrev pub RefusesRanges : List ℕ → ℕ → BinaryError → Type 0
 RefusesRanges bytes addr NotElf64 = ⊥
 RefusesRanges bytes addr BadHeader = ¬ HasSections bytes
@@ -57,7 +57,7 @@ HasBadHeader bytes addr =
     (IsElf64 bytes × ¬ HasSegments bytes)
     ⊎ ((IsAccepted bytes × ¬ HasSections bytes) ⊎ (IsAccepted bytes × HasRanges bytes addr × ¬ HasBoth bytes))
 
--- why an image that is mapped at an address says nothing; want of memory may always be answered
+-- why an image that is mapped at an address says nothing; out of memory may always be answered
 abbrev pub RefusesImage : List ℕ → ℕ → BinaryError → Type 0
 RefusesImage bytes addr NotElf64 = ¬ IsElf64 bytes
 RefusesImage bytes addr BadHeader = HasBadHeader bytes addr

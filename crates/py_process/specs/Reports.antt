@@ -53,6 +53,7 @@ pub record IsDumped (bytes : List ℕ) (images : Pushed) (d : Dumped) : Type 0 w
   pub are_maps : AreMaps bytes d.maps
   pub memory : IsBackedMemory bytes images d.pieces
 
+-- the memory of a process, by what is dumped of it
 abbrev pub memory_in : Dumped → Memory
 memory_in d = byte_at d.pieces
 
@@ -68,6 +69,7 @@ abbrev pub fault_on : Memory → Finding → Config → Option Fault
 fault_on m f config =
     first_fault (stacks_faults (asked_of config) f.layout m f.addresses.lock f.addresses.interpreter)
 
+-- neither native frames nor subprocesses are asked for, and this fault is met first
 pub record MeetsFault (m : Memory) (f : Finding) (config : Config) (fault : Fault) : Type 0 where
   pub asks : AsksNoOther config
   pub first : fault_on m f config ≡ Some fault
@@ -92,6 +94,7 @@ StacksSay m f config (Err ChainLimit) = MeetsFault m f config ManyMembers
 StacksSay m f config (Err OutOfMemory) = ⊤
 StacksSay m f config (Err _) = ⊥
 
+-- a result with its traces in plain terms
 abbrev pub traces_in : {E : Type 0} → Result (Vec StackTrace Global) E → Result (List Trace) E
 traces_in (Ok v) = Ok (map trace_of v.items)
 traces_in (Err e) = Err e
@@ -129,6 +132,7 @@ pub record Reported : Type 0 where
   pub version : Version
   pub traces : List Trace
 
+-- what a report says, in plain terms
 abbrev pub reported_of : Report → Reported
 reported_of r = record {
   signal = r.signal;
@@ -137,6 +141,7 @@ reported_of r = record {
   traces = map trace_of r.traces.items;
 }
 
+-- a result with its report in plain terms
 abbrev pub reported : {E : Type 0} → Result Report E → Result Reported E
 reported (Ok r) = Ok (reported_of r)
 reported (Err e) = Err e
@@ -157,18 +162,21 @@ pub record TellsReport (bytes : List ℕ) (f : Finding) (traces : List Trace) (r
   pub traces_are : r.traces ≡ traces
   pub notes : NotesTell bytes r.signal r.process
 
+-- a result is a report of these traces
 abbrev pub IsTold : List ℕ → Finding → List Trace → Result Reported CoreError → Type 0
 IsTold bytes f traces result = (r : Reported) × TellsReport bytes f traces r × (result ≡ Ok r)
 
+-- what is reported where a process was found: its stacks, or the cause why there are none
 abbrev pub AfterFinding : List ℕ → Dumped → Config → Finding → Result Reported CoreError → Type 0
 AfterFinding bytes d config f = Then (StacksSay (memory_in d) f config) (IsTold bytes f)
 
+-- what is reported where a core was read: what is found in it, and then its stacks
 abbrev pub AfterCore : List ℕ → Pushed → List Layout → Config → Dumped → Result Reported CoreError → Type 0
 AfterCore bytes images layouts config d =
     Then (FindingIs (memory_in d) (machine_of bytes) d.maps images layouts) (AfterFinding bytes d config)
 
 -- the report of a core and its images, or the first cause why there is none: of the core, of the search, of the
--- stacks. The causes shut each other out, so that each comes exactly where it holds, want of memory aside
+-- stacks. The causes shut each other out, so that each comes exactly where it holds, out of memory aside
 abbrev pub ReportIs : List ℕ → Pushed → List Layout → Config → Result Reported CoreError → Type 0
 ReportIs bytes images layouts config = Then (CoreSays bytes images) (AfterCore bytes images layouts config)
 

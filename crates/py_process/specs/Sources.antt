@@ -89,14 +89,17 @@ FirstTells m (source ∷ sources) told =
 
 -- ---- the sources of a process
 
+-- the text at an address as a source of the version, where the address is known
 abbrev pub text_source_at : Option ℕ → List VersionSource
 text_source_at None = []
 text_source_at (Some addr) = Text addr ∷ []
 
+-- the bss of an image as a source of the version, where there is the image
 abbrev pub bss_of : Option Facts → List VersionSource
 bss_of None = []
 bss_of (Some facts) = Section facts.bss_addr facts.bss_size ∷ []
 
+-- the number at an address alone, where it is known, else the other sources
 abbrev pub number_or : Option ℕ → List VersionSource → List VersionSource
 number_or None others = others
 number_or (Some addr) others = Number addr ∷ []
@@ -105,13 +108,15 @@ number_or (Some addr) others = Number addr ∷ []
 abbrev pub text_symbol : Known → Option ℕ
 text_symbol k = option_or (symbol_known k (codes "Py_GetVersion.version")) (symbol_known k (codes "version"))
 
--- that text; then the bss of the program; then that of the library, and the program's path
+-- the bss of the library, and the program's path
 abbrev pub library_sources : Known → List VersionSource
 library_sources k = bss_of k.library ++ Path k.path ∷ []
 
+-- the bss of the program, then that of the library, then the program's path
 abbrev pub section_sources : Known → List VersionSource
 section_sources k = bss_of k.program ++ library_sources k
 
+-- the sources where `Py_Version` is no symbol: the text of `Py_GetVersion` first
 abbrev pub other_sources : Known → List VersionSource
 other_sources k = text_source_at (text_symbol k) ++ section_sources k
 
@@ -119,21 +124,21 @@ other_sources k = text_source_at (text_symbol k) ++ section_sources k
 unfoldable pub sources_of : Known → List VersionSource
 sources_of k = number_or (symbol_known k (codes "Py_Version")) (other_sources k)
 
--- a result of the search is what the sources tell; want of memory may always be answered
+-- a result of the search is what the sources tell; out of memory may always be answered
 abbrev pub VersionIs : Memory → List VersionSource → Result Version VersionError → Type 0
 VersionIs m sources (Ok version) = FirstTells m sources (Ok (Some version))
 VersionIs m sources (Err (Unreadable addr len)) = FirstTells m sources (Err (Missing addr len))
 VersionIs m sources (Err NotFound) = FirstTells m sources (Ok None)
 VersionIs m sources (Err OutOfMemory) = ⊤
 
--- a result is what was told, want of memory aside
+-- a result is what was told, out of memory aside
 abbrev pub IsVersionTold : Found (Option Version) → Result Version VersionError → Type 0
 IsVersionTold told (Ok version) = told ≡ Ok (Some version)
 IsVersionTold told (Err (Unreadable addr len)) = told ≡ Err (Missing addr len)
 IsVersionTold told (Err NotFound) = told ≡ Ok None
 IsVersionTold told (Err OutOfMemory) = ⊤
 
--- a reader answers what its definition allows; it has nothing that is not found, and want of memory may always be
+-- a reader answers what its definition allows; it has nothing that is not found, and out of memory may always be
 -- answered
 abbrev pub ToldBy : (Found (Option Version) → Type 0) → Result (Option Version) VersionError → Type 0
 ToldBy Allows (Ok version) = Allows (Ok version)

@@ -24,10 +24,11 @@ is_within start size sub_start sub_size =
 abbrev pub symbol_type_of : SymbolEntry → ℕ
 symbol_type_of symbol = symbol.info % 16
 
+-- the binding of a symbol: 1 is global, 2 is weak (gABI, "Symbol Table")
 abbrev pub binding_of : SymbolEntry → ℕ
 binding_of symbol = symbol.info / 16
 
--- it isn't defined here, or has no value that another file doesn't replace
+-- whether a symbol isn't defined here, or is global or weak with the value 0
 abbrev pub is_undefined : SymbolEntry → Bool
 is_undefined symbol = nat_eq symbol.section 0
     || ((nat_eq (binding_of symbol) 1 || nat_eq (binding_of symbol) 2) && nat_eq symbol.value 0)

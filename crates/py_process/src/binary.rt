@@ -77,7 +77,7 @@ fn read_binary(alloc: Global, bytes: &[u8], addr: u64, size: u64) -> Result<Bina
 /// `NotElf64` and `BadHeader` come as from `Elf64::parse` and `Elf64::sections`; `NoBss` where no section
 /// may be the bss; `NoExecutable` where no load segment is executable; `BadBss` where the bss, moved, ends
 /// past 2^64 - 1; and then `BadHeader` where a list of symbols does not lie in the file. The first that holds
-/// comes. Else the one error is want of memory, as which names count that together have more bytes than the image:
+/// comes. Else the one error is out of memory, as which names count that together have more bytes than the image:
 /// only names that share their bytes have. The map's names are copies.
 pub fn parse_binary(
     alloc: Global,

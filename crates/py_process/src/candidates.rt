@@ -18,7 +18,7 @@ use py_fields::Layout;
 use py_stacks::{StackError, get_first_thread, is_interpreter_from};
 use std::alloc::Global;
 
-/// What is known of a first thread that can't be read; want of memory is handed on.
+/// What is known of a first thread that can't be read; out of memory is handed on.
 fn no_thread(error: StackError) -> Result<Option<u64>, SearchError>
     ensures { MatchOption (stack_fault error) (result ≡ Err SearchError.OutOfMemory) (λ fault. result ≡ Ok None) }
 {

@@ -84,7 +84,7 @@ fn file_numbers(path: &[u8]) -> Option<(u64, u64)>
     Some((decimal(major)?, decimal(minor)?))
 }
 
-/// The version that a path tells, where it tells one. The one error is want of memory.
+/// The version that a path tells, where it tells one. The one error is out of memory.
 pub(crate) fn file_version(alloc: Global, path: &[u8]) -> Result<Option<Version>, AllocError>
     ensures { IfOk result (λ version. version ≡ file_version path.now) }
 {

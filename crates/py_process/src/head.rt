@@ -43,7 +43,7 @@ fn read_by_offsets<P: ProcessMemory>(
 
 /// The head by the address of the runtime's own record (`_PyRuntime`), by the layout's family; nothing where that is
 /// not known, where a layout has no such record, as up to 3.6, or where something on the way is not in memory. The one
-/// error is want of memory. At most 2 reads.
+/// error is out of memory. At most 2 reads.
 pub fn read_head_from<P: ProcessMemory>(
     alloc: Global,
     process: &mut P,
@@ -71,7 +71,7 @@ pub fn read_head_from<P: ProcessMemory>(
 }
 
 /// The head that symbols give, by the layout's family; nothing where there is no such symbol, or something on the way
-/// is not in memory. The one error is want of memory. At most 2 reads.
+/// is not in memory. The one error is out of memory. At most 2 reads.
 pub fn read_head<M: ContainsAddr, P: ProcessMemory>(
     alloc: Global,
     info: &PythonProcessInfo<M>,

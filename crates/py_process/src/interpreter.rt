@@ -82,7 +82,7 @@ fn find_interpreter<M: ContainsAddr, P: ProcessMemory>(
 /// A candidate is an interpreter where a map holds it, a map holds the head of its threads, the thread there
 /// names it, and its threads can be walked as `is_interpreter` walks them.
 ///
-/// `NotFound` comes exactly where no candidate is one. Else the one error is want of memory, which is no failed
+/// `NotFound` comes exactly where no candidate is one. Else the one error is out of memory, which is no failed
 /// test. At most 6 reads, and for each candidate up to and with the first that is one: none where no map holds
 /// it; one where its head is not in memory or in no map; else 3, 2 for each thread that its test meets, and 6
 /// for each frame: for a cyclic chain as many as its limit lets be met. A section is read by one.

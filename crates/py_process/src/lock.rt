@@ -81,7 +81,7 @@ fn find_family_lock<M: ContainsAddr, P: ProcessMemory>(
 ///
 /// `Unreadable` comes exactly where that word is not in memory, or the sum passes 2^64 - 1, which names 8 bytes
 /// there; `NoLock` exactly where the `Config` asks for the holder alone and a symbol or that place is missing. It
-/// takes no memory: want of memory comes only where a read of the process may want it. At most one read.
+/// takes no memory: out of memory comes only where a read of the process may want it. At most one read.
 pub fn get_threadstate_address<M: ContainsAddr, P: ProcessMemory>(
     interpreter: u64,
     info: &PythonProcessInfo<M>,

@@ -28,7 +28,7 @@ impl<'a> Model for NamedImage<'a> {
 }
 
 impl<'a> NamedImage<'a> {
-    /// Of this image. The one error is want of memory.
+    /// Of this image. The one error is out of memory.
     pub(crate) fn of(alloc: Global, elf: Elf64<'a>) -> Result<NamedImage<'a>, AllocError>
         ensures { IfOk result (λ image. image ≡ elf.entry) }
     {

@@ -81,7 +81,7 @@ fn only_numbers(maps: &[CoreMapRange]) -> Option<(u64, u64)>
 /// The version that the names of mapped files tell: the major and minor number of the last part of a path, behind
 /// `libpython` or `python` and a dot apart, as `libpython3.11.so.1.0` and `python3.11` have them; behind the minor one
 /// `m` may stand, as in `libpython3.6m.so.1.0`. None where no name tells one, or two tell different ones. The patch
-/// isn't told, and is 0. The one error is want of memory.
+/// isn't told, and is 0. The one error is out of memory.
 #[tactic(auto, unfolding(crate::specs::NamedVersions::version_of_names))]
 pub fn version_of_names(alloc: Global, maps: &[CoreMapRange]) -> Result<Option<Version>, AllocError>
     ensures { IfOk result (λ version. version ≡ version_of_names maps.now) }

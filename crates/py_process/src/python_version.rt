@@ -220,7 +220,7 @@ fn read_sources<M: ContainsAddr, P: ProcessMemory>(
 ///
 /// How a version is spelled in a text, and which one counts, `Version::scan_bytes` says. `Unreadable` comes
 /// where the number isn't in memory, or a bss that is reached isn't wholly in memory; `NotFound` where nothing
-/// tells a version. Else the one error is want of memory. At most 3 reads; a section is read by one.
+/// tells a version. Else the one error is out of memory. At most 3 reads; a section is read by one.
 pub fn get_python_version<M: ContainsAddr, P: ProcessMemory>(
     alloc: Global,
     info: &PythonProcessInfo<M>,

@@ -60,7 +60,7 @@ fn is_kept(place: &Place, symbol: &Symbol<'_>) -> bool
     }
 }
 
-/// A copy of a name, for which so much room is left. Want of memory is the one error; a lack of room counts as it.
+/// A copy of a name, for which so much room is left. Out of memory is the one error; a lack of room counts as it.
 fn copy_within(alloc: Global, name: &[u8], room: &mut usize) -> Result<Vec<u8>, AllocError>
     ensures { IfOk result (λ copy. copy.items ≡ name.now) }
 {
@@ -74,7 +74,7 @@ fn copy_within(alloc: Global, name: &[u8], room: &mut usize) -> Result<Vec<u8>, 
 }
 
 /// Adds the symbols that are kept to a map, later ones in the place of earlier ones of their names. The names have at
-/// most so many bytes together as there is room for: more count as want of memory.
+/// most so many bytes together as there is room for: more count as out of memory.
 pub(crate) fn add_symbols(
     alloc: Global,
     symbols: &[Symbol<'_>],

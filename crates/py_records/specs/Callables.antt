@@ -18,55 +18,72 @@ use Rattle.py_records.specs.declared.callables.CellRecord.{CellRecord}
 use Rattle.py_records.specs.declared.callables.WeakrefRecord.{WeakrefRecord}
 use Rattle.py_records.specs.declared.callables.CallableRecords.{CallableRecords}
 
+-- offsets and widths, in bytes, in a `partialobject`: `fn`, `args`, `kw`
 unfoldable pub partial_places : PartialRecord → List Place
 partial_places r = (r.function, 8) ∷ (r.args, 8) ∷ (r.keywords, 8) ∷ []
 
+-- a `partialobject`: its fields stand inside its size, of 1 to 65535 bytes, and no two meet
 abbrev pub IsSoundPartial : PartialRecord → Type 0
 IsSoundPartial r = IsRecord r.size (partial_places r)
 
+-- offsets and widths, in bytes, in a `PyModuleObject`: `md_dict`, `md_name`
 unfoldable pub module_object_places : ModuleObjectRecord → List Place
 module_object_places r = (r.dict, 8) ∷ (r.name, 8) ∷ []
 
+-- a `PyModuleObject`: its fields stand inside its size, of 1 to 65535 bytes, and no two meet
 abbrev pub IsSoundModuleObject : ModuleObjectRecord → Type 0
 IsSoundModuleObject r = IsRecord r.size (module_object_places r)
 
+-- offsets and widths, in bytes, in a `PyFunctionObject`: `func_code`, `func_globals` and the like
 unfoldable pub function_places : FunctionRecord → List Place
 function_places r = (r.code, 8) ∷ (r.globals, 8) ∷ (r.name, 8) ∷ (r.qualname, 8) ∷ (r.closure, 8) ∷ (r.dict, 8)
     ∷ (r.home, 8) ∷ []
 
+-- a `PyFunctionObject`: its fields stand inside its size, of 1 to 65535 bytes, and no two meet
 abbrev pub IsSoundFunction : FunctionRecord → Type 0
 IsSoundFunction r = IsRecord r.size (function_places r)
 
+-- offsets and widths, in bytes, in a `PyMethodObject`: `im_func`, `im_self`
 unfoldable pub method_places : MethodRecord → List Place
 method_places r = (r.function, 8) ∷ (r.receiver, 8) ∷ []
 
+-- a `PyMethodObject`: its fields stand inside its size, of 1 to 65535 bytes, and no two meet
 abbrev pub IsSoundMethod : MethodRecord → Type 0
 IsSoundMethod r = IsRecord r.size (method_places r)
 
+-- offsets and widths, in bytes, in a `PyCFunctionObject`: `m_ml`, `m_self`, `m_module`
 unfoldable pub builtin_places : BuiltinRecord → List Place
 builtin_places r = (r.definition, 8) ∷ (r.receiver, 8) ∷ (r.home, 8) ∷ []
 
+-- a `PyCFunctionObject`: its fields stand inside its size, of 1 to 65535 bytes, and no two meet
 abbrev pub IsSoundBuiltin : BuiltinRecord → Type 0
 IsSoundBuiltin r = IsRecord r.size (builtin_places r)
 
+-- offset and width, in bytes, of `ml_name` in a `PyMethodDef`
 unfoldable pub method_def_places : MethodDefRecord → List Place
 method_def_places r = (r.name, 8) ∷ []
 
+-- a `PyMethodDef`: its field stands inside its size, of 1 to 65535 bytes
 abbrev pub IsSoundMethodDef : MethodDefRecord → Type 0
 IsSoundMethodDef r = IsRecord r.size (method_def_places r)
 
+-- offset and width, in bytes, of `ob_ref` in a `PyCellObject`
 unfoldable pub cell_places : CellRecord → List Place
 cell_places r = (r.value, 8) ∷ []
 
+-- a `PyCellObject`: its field stands inside its size, of 1 to 65535 bytes
 abbrev pub IsSoundCell : CellRecord → Type 0
 IsSoundCell r = IsRecord r.size (cell_places r)
 
+-- offsets and widths, in bytes, in a `PyWeakReference`: `wr_object`, `wr_callback`
 unfoldable pub weakref_places : WeakrefRecord → List Place
 weakref_places r = (r.object, 8) ∷ (r.callback, 8) ∷ []
 
+-- a `PyWeakReference`: its fields stand inside its size, of 1 to 65535 bytes, and no two meet
 abbrev pub IsSoundWeakref : WeakrefRecord → Type 0
 IsSoundWeakref r = IsRecord r.size (weakref_places r)
 
+-- each group of functions, methods, modules, cells and weak references that is there is sound
 pub record AreSoundCallables (r : CallableRecords) : Type 0 where
   pub partial : IfSome r.partial IsSoundPartial
   pub module_object : IfSome r.module_object IsSoundModuleObject
@@ -77,6 +94,7 @@ pub record AreSoundCallables (r : CallableRecords) : Type 0 where
   pub cell : IfSome r.cell IsSoundCell
   pub weakref : IfSome r.weakref IsSoundWeakref
 
+-- the group `partial`: size and field offsets of a `partialobject` (Modules/_functoolsmodule.c)
 abbrev pub partial_in : Members → PartialRecord
 partial_in ms = record {
   size = number_at ms None (codes "size");
@@ -85,6 +103,7 @@ partial_in ms = record {
   keywords = number_at ms None (codes "keywords");
 }
 
+-- the group `module`: size and field offsets of a `PyModuleObject` (Include/internal/pycore_moduleobject.h)
 abbrev pub module_object_in : Members → ModuleObjectRecord
 module_object_in ms = record {
   size = number_at ms None (codes "size");
@@ -92,6 +111,7 @@ module_object_in ms = record {
   name = number_at ms None (codes "name");
 }
 
+-- the group `function`: size and field offsets of a `PyFunctionObject` (Include/funcobject.h)
 abbrev pub function_in : Members → FunctionRecord
 function_in ms = record {
   size = number_at ms None (codes "size");
@@ -104,6 +124,7 @@ function_in ms = record {
   home = number_at ms None (codes "module");
 }
 
+-- the group `method`: size and field offsets of a `PyMethodObject` (Include/classobject.h)
 abbrev pub method_in : Members → MethodRecord
 method_in ms = record {
   size = number_at ms None (codes "size");
@@ -111,6 +132,7 @@ method_in ms = record {
   receiver = number_at ms None (codes "self");
 }
 
+-- the group `builtin`: size and field offsets of a `PyCFunctionObject` (Include/methodobject.h)
 abbrev pub builtin_in : Members → BuiltinRecord
 builtin_in ms = record {
   size = number_at ms None (codes "size");
@@ -119,18 +141,21 @@ builtin_in ms = record {
   home = number_at ms None (codes "module");
 }
 
+-- the group `method_def`: size and the field's offset of a `PyMethodDef` (Include/methodobject.h)
 abbrev pub method_def_in : Members → MethodDefRecord
 method_def_in ms = record {
   size = number_at ms None (codes "size");
   name = number_at ms None (codes "name");
 }
 
+-- the group `cell`: size and the field's offset of a `PyCellObject` (Include/cellobject.h)
 abbrev pub cell_in : Members → CellRecord
 cell_in ms = record {
   size = number_at ms None (codes "size");
   value = number_at ms None (codes "value");
 }
 
+-- the group `weakref`: size and field offsets of a `PyWeakReference` (Include/weakrefobject.h)
 abbrev pub weakref_in : Members → WeakrefRecord
 weakref_in ms = record {
   size = number_at ms None (codes "size");
@@ -138,6 +163,7 @@ weakref_in ms = record {
   callback = number_at ms None (codes "callback");
 }
 
+-- the groups of functions, methods, modules, cells and weak references that a table has
 unfoldable pub callables_from : Members → CallableRecords
 callables_from ms = record {
   partial = option_map partial_in (group_at ms (codes "partial"));

@@ -16,30 +16,39 @@ use Rattle.py_records.specs.declared.coroutines.GeneratorHandledRecord.{Generato
 use Rattle.py_records.specs.declared.coroutines.HeldRecord.{HeldRecord}
 use Rattle.py_records.specs.declared.coroutines.CoroutineRecords.{CoroutineRecords}
 
+-- offset and width, in bytes, of `gi_name` and `gi_qualname`, or of their twins with `cr_` or `ag_`
 unfoldable pub generator_places : GeneratorRecord → List Place
 generator_places r = (r.name, 8) ∷ (r.qualname, 8) ∷ []
 
+-- a `PyGenObject`, `PyCoroObject` or `PyAsyncGenObject`: its names stand inside its size, and don't meet
 abbrev pub IsSoundGenerator : GeneratorRecord → Type 0
 IsSoundGenerator r = IsRecord r.size (generator_places r)
 
+-- the offset of the group `generator_frame` (`gi_frame`) is below 2^20
 abbrev pub IsSoundGeneratorFrame : GeneratorFrameRecord → Type 0
 IsSoundGeneratorFrame r = ArePlain (r.frame ∷ [])
 
+-- the offset of the group `generator_running` (`gi_running`) is below 2^20
 abbrev pub IsSoundGeneratorRunning : GeneratorRunningRecord → Type 0
 IsSoundGeneratorRunning r = ArePlain (r.running ∷ [])
 
+-- each offset of the group `generator_inside` (`gi_iframe`, `gi_frame_state`) is below 2^20
 abbrev pub IsSoundGeneratorInside : GeneratorInsideRecord → Type 0
 IsSoundGeneratorInside r = ArePlain (r.frame ∷ r.state ∷ [])
 
+-- the offset of the group `generator_handled` (`gi_exc_state`) is below 2^20
 abbrev pub IsSoundGeneratorHandled : GeneratorHandledRecord → Type 0
 IsSoundGeneratorHandled r = ArePlain (r.item ∷ [])
 
+-- offset and width, in bytes, of the address of the object that another one holds while it is awaited
 unfoldable pub held_places : HeldRecord → List Place
 held_places r = (r.held, 8) ∷ []
 
+-- an object that holds another one: that one's address stands inside its size, of 1 to 65535 bytes
 abbrev pub IsSoundHeld : HeldRecord → Type 0
 IsSoundHeld r = IsRecord r.size (held_places r)
 
+-- each group of generators, coroutines and what holds one of them that is there is sound
 pub record AreSoundCoroutines (r : CoroutineRecords) : Type 0 where
   pub generator : IfSome r.generator IsSoundGenerator
   pub coroutine : IfSome r.coroutine IsSoundGenerator
@@ -53,6 +62,7 @@ pub record AreSoundCoroutines (r : CoroutineRecords) : Type 0 where
   pub athrow : IfSome r.athrow IsSoundHeld
   pub anext_awaitable : IfSome r.anext_awaitable IsSoundHeld
 
+-- one of three groups: size and name offsets of a `PyGenObject`, `PyCoroObject` or `PyAsyncGenObject`
 abbrev pub generator_in : Members → GeneratorRecord
 generator_in ms = record {
   size = number_at ms None (codes "size");
@@ -60,33 +70,39 @@ generator_in ms = record {
   qualname = number_at ms None (codes "qualname");
 }
 
+-- the group `generator_frame`: the offset of `gi_frame` up to 3.10, and of its twins `cr_frame` and `ag_frame`
 abbrev pub generator_frame_in : Members → GeneratorFrameRecord
 generator_frame_in ms = record {
   frame = number_at ms None (codes "frame");
 }
 
+-- the group `generator_running`: the offset of `gi_running` up to 3.9, and of its twins
 abbrev pub generator_running_in : Members → GeneratorRunningRecord
 generator_running_in ms = record {
   running = number_at ms None (codes "running");
 }
 
+-- the group `generator_inside`: offsets of `gi_iframe`, `gi_frame_state` from 3.11 on, and of their twins
 abbrev pub generator_inside_in : Members → GeneratorInsideRecord
 generator_inside_in ms = record {
   frame = number_at ms None (codes "frame");
   state = number_at ms None (codes "state");
 }
 
+-- the group `generator_handled`: the offset at which `gi_exc_state` begins, from 3.7 on, and of its twins
 abbrev pub generator_handled_in : Members → GeneratorHandledRecord
 generator_handled_in ms = record {
   item = number_at ms None (codes "item");
 }
 
+-- the group of an object that holds another one (such as `PyCoroWrapper`): its size and that address's offset
 abbrev pub held_in : Members → HeldRecord
 held_in ms = record {
   size = number_at ms None (codes "size");
   held = number_at ms None (codes "held");
 }
 
+-- the groups of generators, coroutines and what holds one of them that a table has
 unfoldable pub coroutines_from : Members → CoroutineRecords
 coroutines_from ms = record {
   generator = option_map generator_in (group_at ms (codes "generator"));

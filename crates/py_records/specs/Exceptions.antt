@@ -20,61 +20,80 @@ use Rattle.py_records.specs.declared.exceptions.RaisedRecord.{RaisedRecord}
 use Rattle.py_records.specs.declared.exceptions.HandledRecord.{HandledRecord}
 use Rattle.py_records.specs.declared.exceptions.ExceptionRecords.{ExceptionRecords}
 
+-- offsets and widths, in bytes, in a `PyBaseExceptionObject`: `dict`, `args`, `traceback`, `cause` and the like
 unfoldable pub exception_places : ExceptionRecord → List Place
 exception_places r = (r.dict, 8) ∷ (r.args, 8) ∷ (r.traceback, 8) ∷ (r.context, 8) ∷ (r.cause, 8)
     ∷ (r.suppress_context, 1) ∷ []
 
+-- a `PyBaseExceptionObject`: its fields stand inside its size, of 1 to 65535 bytes, and no two meet
 abbrev pub IsSoundException : ExceptionRecord → Type 0
 IsSoundException r = IsRecord r.size (exception_places r)
 
+-- offsets and widths, in bytes, in a `PyOSErrorObject`: `myerrno`, `strerror`, `filename`, `filename2`
 unfoldable pub os_error_places : OsErrorRecord → List Place
 os_error_places r = (r.errno, 8) ∷ (r.strerror, 8) ∷ (r.filename, 8) ∷ (r.filename2, 8) ∷ []
 
+-- a `PyOSErrorObject`: its fields stand inside its size, of 1 to 65535 bytes, and no two meet
 abbrev pub IsSoundOsError : OsErrorRecord → Type 0
 IsSoundOsError r = IsRecord r.size (os_error_places r)
 
+-- offsets and widths, in bytes, in a `PySyntaxErrorObject`: `msg`, `filename`, `lineno`
 unfoldable pub syntax_error_places : SyntaxErrorRecord → List Place
 syntax_error_places r = (r.msg, 8) ∷ (r.filename, 8) ∷ (r.line, 8) ∷ []
 
+-- a `PySyntaxErrorObject`: its fields stand inside its size, of 1 to 65535 bytes, and no two meet
 abbrev pub IsSoundSyntaxError : SyntaxErrorRecord → Type 0
 IsSoundSyntaxError r = IsRecord r.size (syntax_error_places r)
 
+-- offsets and widths, in bytes, in a `PyUnicodeErrorObject`: `encoding`, `object`, `start`, `end`, `reason`
 unfoldable pub unicode_error_places : UnicodeErrorRecord → List Place
 unicode_error_places r = (r.encoding, 8) ∷ (r.object, 8) ∷ (r.start, 8) ∷ (r.end, 8) ∷ (r.reason, 8) ∷ []
 
+-- a `PyUnicodeErrorObject`: its fields stand inside its size, of 1 to 65535 bytes, and no two meet
 abbrev pub IsSoundUnicodeError : UnicodeErrorRecord → Type 0
 IsSoundUnicodeError r = IsRecord r.size (unicode_error_places r)
 
+-- offsets and widths, in bytes, in a `PyImportErrorObject`: `msg`, `name`
 unfoldable pub import_error_places : ImportErrorRecord → List Place
 import_error_places r = (r.msg, 8) ∷ (r.name, 8) ∷ []
 
+-- a `PyImportErrorObject`: its fields stand inside its size, of 1 to 65535 bytes, and no two meet
 abbrev pub IsSoundImportError : ImportErrorRecord → Type 0
 IsSoundImportError r = IsRecord r.size (import_error_places r)
 
+-- offsets and widths, in bytes, in a `PyBaseExceptionGroupObject`: `msg`, `excs`
 unfoldable pub exception_group_places : ExceptionGroupRecord → List Place
 exception_group_places r = (r.msg, 8) ∷ (r.excs, 8) ∷ []
 
+-- a `PyBaseExceptionGroupObject`: its fields stand inside its size, of 1 to 65535 bytes, and no two meet
 abbrev pub IsSoundExceptionGroup : ExceptionGroupRecord → Type 0
 IsSoundExceptionGroup r = IsRecord r.size (exception_group_places r)
 
+-- offsets and widths, in bytes, in a `_PyErr_StackItem`: `exc_value`, `previous_item`
 unfoldable pub item_places : ItemRecord → List Place
 item_places r = (r.value, 8) ∷ (r.previous, 8) ∷ []
 
+-- a `_PyErr_StackItem`: its fields stand inside its size, of 1 to 65535 bytes, and no two meet
 abbrev pub IsSoundItem : ItemRecord → Type 0
 IsSoundItem r = IsRecord r.size (item_places r)
 
+-- each offset of the group `item_parts` (`exc_type`, `exc_traceback`) is below 2^20
 abbrev pub IsSoundItemParts : ItemPartsRecord → Type 0
 IsSoundItemParts r = ArePlain (r.klass ∷ r.traceback ∷ [])
 
+-- each offset of the group `raised_parts` (`curexc_type`, `curexc_value`, `curexc_traceback`) is below 2^20
 abbrev pub IsSoundRaisedParts : RaisedPartsRecord → Type 0
 IsSoundRaisedParts r = ArePlain (r.klass ∷ r.value ∷ r.traceback ∷ [])
 
+-- the offset of the group `raised` (`current_exception`) is below 2^20
 abbrev pub IsSoundRaised : RaisedRecord → Type 0
 IsSoundRaised r = ArePlain (r.exception ∷ [])
 
+-- each offset of the group `handled` (`exc_info`, `exc_state`) is below 2^20
 abbrev pub IsSoundHandled : HandledRecord → Type 0
 IsSoundHandled r = ArePlain (r.newest ∷ r.oldest ∷ [])
 
+-- each group of exceptions, and of where a thread has those raised and handled, that is there is sound
 pub record AreSoundExceptions (r : ExceptionRecords) : Type 0 where
   pub exception : IfSome r.exception IsSoundException
   pub os_error : IfSome r.os_error IsSoundOsError
@@ -88,6 +107,7 @@ pub record AreSoundExceptions (r : ExceptionRecords) : Type 0 where
   pub raised : IfSome r.raised IsSoundRaised
   pub handled : IfSome r.handled IsSoundHandled
 
+-- the group `exception`: size and field offsets of a `PyBaseExceptionObject` (Include/pyerrors.h)
 abbrev pub exception_in : Members → ExceptionRecord
 exception_in ms = record {
   size = number_at ms None (codes "size");
@@ -99,6 +119,7 @@ exception_in ms = record {
   suppress_context = number_at ms None (codes "suppress_context");
 }
 
+-- the group `os_error`: size and field offsets of a `PyOSErrorObject` (Include/pyerrors.h)
 abbrev pub os_error_in : Members → OsErrorRecord
 os_error_in ms = record {
   size = number_at ms None (codes "size");
@@ -108,6 +129,7 @@ os_error_in ms = record {
   filename2 = number_at ms None (codes "filename2");
 }
 
+-- the group `syntax_error`: size and field offsets of a `PySyntaxErrorObject` (Include/pyerrors.h)
 abbrev pub syntax_error_in : Members → SyntaxErrorRecord
 syntax_error_in ms = record {
   size = number_at ms None (codes "size");
@@ -116,6 +138,7 @@ syntax_error_in ms = record {
   line = number_at ms None (codes "line");
 }
 
+-- the group `unicode_error`: size and field offsets of a `PyUnicodeErrorObject` (Include/pyerrors.h)
 abbrev pub unicode_error_in : Members → UnicodeErrorRecord
 unicode_error_in ms = record {
   size = number_at ms None (codes "size");
@@ -126,6 +149,7 @@ unicode_error_in ms = record {
   reason = number_at ms None (codes "reason");
 }
 
+-- the group `import_error`: size and field offsets of a `PyImportErrorObject` (Include/pyerrors.h)
 abbrev pub import_error_in : Members → ImportErrorRecord
 import_error_in ms = record {
   size = number_at ms None (codes "size");
@@ -133,6 +157,7 @@ import_error_in ms = record {
   name = number_at ms None (codes "name");
 }
 
+-- the group `exception_group`: size and field offsets of a `PyBaseExceptionGroupObject` (Include/cpython/pyerrors.h)
 abbrev pub exception_group_in : Members → ExceptionGroupRecord
 exception_group_in ms = record {
   size = number_at ms None (codes "size");
@@ -140,6 +165,7 @@ exception_group_in ms = record {
   excs = number_at ms None (codes "excs");
 }
 
+-- the group `item`: size and field offsets of a `_PyErr_StackItem` (Include/cpython/pystate.h)
 abbrev pub item_in : Members → ItemRecord
 item_in ms = record {
   size = number_at ms None (codes "size");
@@ -147,12 +173,14 @@ item_in ms = record {
   previous = number_at ms None (codes "previous");
 }
 
+-- the group `item_parts`: the offsets of `exc_type`, `exc_traceback` in a `_PyErr_StackItem` from 3.7 to 3.10
 abbrev pub item_parts_in : Members → ItemPartsRecord
 item_parts_in ms = record {
   klass = number_at ms None (codes "type");
   traceback = number_at ms None (codes "traceback");
 }
 
+-- the group `raised_parts`: offsets of `curexc_type`, `curexc_value` and `curexc_traceback` in a thread up to 3.11
 abbrev pub raised_parts_in : Members → RaisedPartsRecord
 raised_parts_in ms = record {
   klass = number_at ms None (codes "type");
@@ -160,17 +188,20 @@ raised_parts_in ms = record {
   traceback = number_at ms None (codes "traceback");
 }
 
+-- the group `raised`: the offset of `current_exception` in a `PyThreadState` from 3.12 on
 abbrev pub raised_in : Members → RaisedRecord
 raised_in ms = record {
   exception = number_at ms None (codes "exception");
 }
 
+-- the group `handled`: the offsets of `exc_info`, `exc_state` in a `PyThreadState` from 3.7 on
 abbrev pub handled_in : Members → HandledRecord
 handled_in ms = record {
   newest = number_at ms None (codes "newest");
   oldest = number_at ms None (codes "oldest");
 }
 
+-- the groups of exceptions, and of where a thread has those raised and handled, that a table has
 unfoldable pub exceptions_from : Members → ExceptionRecords
 exceptions_from ms = record {
   exception = option_map exception_in (group_at ms (codes "exception"));

@@ -12,6 +12,7 @@ use Rattle.py_records.specs.declared.keys.Presence.{Presence}
 use Rattle.py_records.specs.declared.keys.Presence.TheVariants.{Always, Free}
 use Rattle.py_records.specs.Keys.{Key, fits}
 
+-- whether a key has to be there where its group is; others need not be
 abbrev pub is_always : Presence → Bool
 is_always Always = true
 is_always Free = false
@@ -26,6 +27,7 @@ abbrev pub is_wrong : Bool → Kind → Presence → Option Data → Bool
 is_wrong home kind presence None = is_always presence && home
 is_wrong home kind presence (Some d) = not (fits kind d)
 
+-- whether a key of a table is missing where it has to be, or has the wrong kind
 abbrev pub is_flawed : Members → Key → Bool
 is_flawed ms key = is_wrong (has_home ms key.group) key.kind key.presence (value_at ms key.group key.name)
 
@@ -33,6 +35,7 @@ is_flawed ms key = is_wrong (has_home ms key.group) key.kind key.presence (value
 abbrev pub is_key : Option (List ℕ) → List ℕ → Key → Bool
 is_key group name key = same_group key.group group && bytes_eq key.name name
 
+-- whether a table of records has a key of this name in this group
 abbrev pub is_known : List Key → Option (List ℕ) → List ℕ → Bool
 is_known keys group name = list_any (is_key group name) keys
 
@@ -46,6 +49,7 @@ unknown_by keys ms name Group =
     option_map (path (Some name)) (option_and_then (unknown_in keys (Some name)) (group_at ms name))
 unknown_by keys ms name _ = None
 
+-- where the key names a group that is there, the path of the first name in it that is no key
 abbrev pub unknown_at : List Key → Members → Key → Option (List ℕ)
 unknown_at keys ms key = unknown_by keys ms key.name key.kind
 

@@ -18,45 +18,59 @@ use Rattle.py_records.specs.declared.frames.CframeRecord.{CframeRecord}
 use Rattle.py_records.specs.declared.frames.TracebackRecord.{TracebackRecord}
 use Rattle.py_records.specs.declared.frames.FrameRecords.{FrameRecords}
 
+-- offsets and widths, in bytes, in a `PyCodeObject`: `co_flags`, `co_stacksize`
 unfoldable pub code_places : CodeRecord → List Place
 code_places r = (r.flags, 4) ∷ (r.stack_size, 4) ∷ []
 
+-- a `PyCodeObject`: its fields stand inside its size, of 1 to 65535 bytes, and no two meet
 abbrev pub IsSoundCode : CodeRecord → Type 0
 IsSoundCode r = IsRecord r.size (code_places r)
 
+-- each offset of the group `code_names` (`co_code`, `co_cellvars`, `co_freevars`) is below 2^20
 abbrev pub IsSoundCodeNames : CodeNamesRecord → Type 0
 IsSoundCodeNames r = ArePlain (r.bytecode ∷ r.cells ∷ r.frees ∷ [])
 
+-- each offset of the group `code_kinds` (`co_nlocalsplus`, `co_localspluskinds`, `co_qualname`) is below 2^20
 abbrev pub IsSoundCodeKinds : CodeKindsRecord → Type 0
 IsSoundCodeKinds r = ArePlain (r.count ∷ r.kinds ∷ r.qualname ∷ [])
 
+-- offset and width, in bytes, of `f_frame` in a `PyFrameObject` from 3.11 on
 unfoldable pub frame_object_places : FrameObjectRecord → List Place
 frame_object_places r = (r.frame, 8) ∷ []
 
+-- a `PyFrameObject` from 3.11 on: its field stands inside its size, of 1 to 65535 bytes
 abbrev pub IsSoundFrameObject : FrameObjectRecord → Type 0
 IsSoundFrameObject r = IsRecord r.size (frame_object_places r)
 
+-- the offset of `owner` and the three values of it are below 2^20
 abbrev pub IsSoundOwner : OwnerRecord → Type 0
 IsSoundOwner r = ArePlain (r.place ∷ r.thread ∷ r.generator ∷ r.frame_object ∷ [])
 
+-- `FRAME_OWNED_BY_CSTACK` is below 2^20
 abbrev pub IsSoundShim : ShimRecord → Type 0
 IsSoundShim r = ArePlain (r.owner ∷ [])
 
+-- the offset of `is_entry` is below 2^20
 abbrev pub IsSoundEntry : EntryRecord → Type 0
 IsSoundEntry r = ArePlain (r.place ∷ [])
 
+-- offsets and widths, in bytes, in a `_PyCFrame`: `current_frame`, `previous`
 unfoldable pub cframe_places : CframeRecord → List Place
 cframe_places r = (r.current, 8) ∷ (r.previous, 8) ∷ []
 
+-- a `_PyCFrame`: its fields stand inside its size, of 1 to 65535 bytes, and no two meet
 abbrev pub IsSoundCframe : CframeRecord → Type 0
 IsSoundCframe r = IsRecord r.size (cframe_places r)
 
+-- offsets and widths, in bytes, in a `PyTracebackObject`: `tb_next`, `tb_frame`, `tb_lasti`, `tb_lineno`
 unfoldable pub traceback_places : TracebackRecord → List Place
 traceback_places r = (r.next, 8) ∷ (r.frame, 8) ∷ (r.lasti, 4) ∷ (r.line, 4) ∷ []
 
+-- a `PyTracebackObject`: its fields stand inside its size, of 1 to 65535 bytes, and no two meet
 abbrev pub IsSoundTraceback : TracebackRecord → Type 0
 IsSoundTraceback r = IsRecord r.size (traceback_places r)
 
+-- each group of code, frames and tracebacks that is there is sound
 pub record AreSoundFrames (r : FrameRecords) : Type 0 where
   pub code : IfSome r.code IsSoundCode
   pub code_names : IfSome r.code_names IsSoundCodeNames
@@ -68,6 +82,7 @@ pub record AreSoundFrames (r : FrameRecords) : Type 0 where
   pub cframe : IfSome r.cframe IsSoundCframe
   pub traceback : IfSome r.traceback IsSoundTraceback
 
+-- the group `code`: size and field offsets of a `PyCodeObject` (Include/code.h)
 abbrev pub code_in : Members → CodeRecord
 code_in ms = record {
   size = number_at ms None (codes "size");
@@ -75,6 +90,7 @@ code_in ms = record {
   stack_size = number_at ms None (codes "stack_size");
 }
 
+-- the group `code_names`: the offsets of `co_code`, `co_cellvars`, `co_freevars` in a `PyCodeObject` up to 3.10
 abbrev pub code_names_in : Members → CodeNamesRecord
 code_names_in ms = record {
   bytecode = number_at ms None (codes "bytecode");
@@ -82,6 +98,7 @@ code_names_in ms = record {
   frees = number_at ms None (codes "frees");
 }
 
+-- the group `code_kinds`: offsets of `co_nlocalsplus`, `co_localspluskinds` and `co_qualname`, from 3.11 on
 abbrev pub code_kinds_in : Members → CodeKindsRecord
 code_kinds_in ms = record {
   count = number_at ms None (codes "count");
@@ -89,12 +106,14 @@ code_kinds_in ms = record {
   qualname = number_at ms None (codes "qualname");
 }
 
+-- the group `frame_object`: size and the field's offset of a `PyFrameObject` from 3.11 on (pycore_frame.h)
 abbrev pub frame_object_in : Members → FrameObjectRecord
 frame_object_in ms = record {
   size = number_at ms None (codes "size");
   frame = number_at ms None (codes "frame");
 }
 
+-- the group `owner`: where `_PyInterpreterFrame` has `owner`, and three values, `FRAME_OWNED_BY_..`
 abbrev pub owner_in : Members → OwnerRecord
 owner_in ms = record {
   place = number_at ms None (codes "place");
@@ -103,16 +122,19 @@ owner_in ms = record {
   frame_object = number_at ms None (codes "frame_object");
 }
 
+-- the group `shim`: a frame's `owner` where C called Python, `FRAME_OWNED_BY_CSTACK`, from 3.12 on
 abbrev pub shim_in : Members → ShimRecord
 shim_in ms = record {
   owner = number_at ms None (codes "owner");
 }
 
+-- the group `entry`: where `_PyInterpreterFrame` of 3.11 has `is_entry`
 abbrev pub entry_in : Members → EntryRecord
 entry_in ms = record {
   place = number_at ms None (codes "place");
 }
 
+-- the group `cframe`: size and field offsets of a `_PyCFrame` (Include/cpython/pystate.h)
 abbrev pub cframe_in : Members → CframeRecord
 cframe_in ms = record {
   size = number_at ms None (codes "size");
@@ -120,6 +142,7 @@ cframe_in ms = record {
   previous = number_at ms None (codes "previous");
 }
 
+-- the group `traceback`: size and field offsets of a `PyTracebackObject` (Include/traceback.h)
 abbrev pub traceback_in : Members → TracebackRecord
 traceback_in ms = record {
   size = number_at ms None (codes "size");
@@ -129,6 +152,7 @@ traceback_in ms = record {
   line = number_at ms None (codes "line");
 }
 
+-- the groups of code, frames and tracebacks that a table has
 unfoldable pub frames_from : Members → FrameRecords
 frames_from ms = record {
   code = option_map code_in (group_at ms (codes "code"));

@@ -18,44 +18,57 @@ use Rattle.py_records.specs.declared.heap.ArenasInsideRecord.{ArenasInsideRecord
 use Rattle.py_records.specs.declared.heap.ArenasBehindRecord.{ArenasBehindRecord}
 use Rattle.py_records.specs.declared.heap.HeapRecords.{HeapRecords}
 
+-- the offset of `next` in a `PyInterpreterState` is below 2^20
 abbrev pub IsSoundInterpreter : InterpreterRecord → Type 0
 IsSoundInterpreter r = ArePlain (r.next ∷ [])
 
+-- the offsets of the collector's `generations`, `permanent_generation` and `collecting` are below 2^20
 abbrev pub IsSoundCollector : CollectorRecord → Type 0
 IsSoundCollector r = ArePlain (r.generations ∷ r.permanent ∷ r.collecting ∷ [])
 
+-- offset and width, in bytes, of `count` in a `gc_generation`
 unfoldable pub generation_places : GenerationRecord → List Place
 generation_places r = (r.count, 4) ∷ []
 
+-- a `gc_generation`: its field stands inside its size, of 1 to 65535 bytes
 abbrev pub IsSoundGeneration : GenerationRecord → Type 0
 IsSoundGeneration r = IsRecord r.size (generation_places r)
 
+-- offset and width, in bytes, of a `PyGC_Head`'s links, to the next head and to the one before
 unfoldable pub gc_head_places : GcHeadRecord → List Place
 gc_head_places r = (r.next, 8) ∷ (r.previous, 8) ∷ []
 
+-- a `PyGC_Head`: its links stand inside its size, and don't meet; the number of bits that are marks is below 2^20
 pub record IsSoundGcHead (r : GcHeadRecord) : Type 0 where
   pub fields : IsRecord r.size (gc_head_places r)
   pub constants : ArePlain (r.marks ∷ [])
 
+-- offsets and widths, in bytes, in an `arena_object`: `address`, `pool_address`, `nfreepools`, `ntotalpools`
 unfoldable pub arena_places : ArenaRecord → List Place
 arena_places r = (r.address, 8) ∷ (r.pool, 8) ∷ (r.free, 4) ∷ (r.pools, 4) ∷ []
 
+-- an `arena_object`: its fields stand inside its size, of 1 to 65535 bytes, and no two meet
 abbrev pub IsSoundArena : ArenaRecord → Type 0
 IsSoundArena r = IsRecord r.size (arena_places r)
 
+-- offsets and widths, in bytes, in a `pool_header`: `ref.count`, `freeblock`, `szidx`, `nextoffset`
 unfoldable pub pool_places : PoolRecord → List Place
 pool_places r = (r.count, 4) ∷ (r.free_block, 8) ∷ (r.size_class, 4) ∷ (r.next_offset, 4) ∷ []
 
+-- a `pool_header`: its fields stand inside its size, and no two meet; `POOL_SIZE` is below 2^20
 pub record IsSoundPool (r : PoolRecord) : Type 0 where
   pub fields : IsRecord r.size (pool_places r)
   pub constants : ArePlain (r.bytes ∷ [])
 
+-- each offset of the group `arenas_inside` (`obmalloc.mgmt.arenas`, `maxarenas`) is below 2^20
 abbrev pub IsSoundArenasInside : ArenasInsideRecord → Type 0
 IsSoundArenasInside r = ArePlain (r.arenas ∷ r.count ∷ [])
 
+-- the offset of `obmalloc`, and those of `arenas` and `maxarenas` in the state it leads to, are below 2^20
 abbrev pub IsSoundArenasBehind : ArenasBehindRecord → Type 0
 IsSoundArenasBehind r = ArePlain (r.state ∷ r.arenas ∷ r.count ∷ [])
 
+-- each group of interpreters, the collector and pymalloc that is there is sound
 pub record AreSoundHeap (r : HeapRecords) : Type 0 where
   pub interpreter : IfSome r.interpreter IsSoundInterpreter
   pub runtime_collector : IfSome r.runtime_collector IsSoundCollector
@@ -67,11 +80,13 @@ pub record AreSoundHeap (r : HeapRecords) : Type 0 where
   pub arenas_inside : IfSome r.arenas_inside IsSoundArenasInside
   pub arenas_behind : IfSome r.arenas_behind IsSoundArenasBehind
 
+-- the group `interpreter`: where a `PyInterpreterState` has the address of the next one
 abbrev pub interpreter_in : Members → InterpreterRecord
 interpreter_in ms = record {
   next = number_at ms None (codes "next");
 }
 
+-- the group `collector` or `runtime_collector`: offsets of `gc.generations`, `permanent_generation`, `collecting`
 abbrev pub collector_in : Members → CollectorRecord
 collector_in ms = record {
   generations = number_at ms None (codes "generations");
@@ -79,12 +94,14 @@ collector_in ms = record {
   collecting = number_at ms None (codes "collecting");
 }
 
+-- the group `generation`: size and the field's offset of a `gc_generation` (Include/internal/pycore_gc.h)
 abbrev pub generation_in : Members → GenerationRecord
 generation_in ms = record {
   size = number_at ms None (codes "size");
   count = number_at ms None (codes "count");
 }
 
+-- the group `gc_head`: size and link offsets of a `PyGC_Head`, and how many low bits of the links are marks
 abbrev pub gc_head_in : Members → GcHeadRecord
 gc_head_in ms = record {
   size = number_at ms None (codes "size");
@@ -93,6 +110,7 @@ gc_head_in ms = record {
   marks = number_at ms None (codes "marks");
 }
 
+-- the group `arena`: size and field offsets of an `arena_object` (Objects/obmalloc.c)
 abbrev pub arena_in : Members → ArenaRecord
 arena_in ms = record {
   size = number_at ms None (codes "size");
@@ -102,6 +120,7 @@ arena_in ms = record {
   pools = number_at ms None (codes "pools");
 }
 
+-- the group `pool`: size and field offsets of a `pool_header` (Objects/obmalloc.c), and `POOL_SIZE` in bytes
 abbrev pub pool_in : Members → PoolRecord
 pool_in ms = record {
   size = number_at ms None (codes "size");
@@ -112,12 +131,14 @@ pool_in ms = record {
   next_offset = number_at ms None (codes "next_offset");
 }
 
+-- the group `arenas_inside`: the offsets of `obmalloc.mgmt.arenas`, `maxarenas` in a `PyInterpreterState` of 3.12
 abbrev pub arenas_inside_in : Members → ArenasInsideRecord
 arenas_inside_in ms = record {
   arenas = number_at ms None (codes "arenas");
   count = number_at ms None (codes "count");
 }
 
+-- the group `arenas_behind`, of 3.13: offset of `obmalloc`, and in `_obmalloc_state` of `arenas` and `maxarenas`
 abbrev pub arenas_behind_in : Members → ArenasBehindRecord
 arenas_behind_in ms = record {
   state = number_at ms None (codes "state");
@@ -125,6 +146,7 @@ arenas_behind_in ms = record {
   count = number_at ms None (codes "count");
 }
 
+-- the groups of interpreters, the collector and pymalloc that a table has
 unfoldable pub heap_from : Members → HeapRecords
 heap_from ms = record {
   interpreter = option_map interpreter_in (group_at ms (codes "interpreter"));

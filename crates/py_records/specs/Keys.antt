@@ -39,6 +39,7 @@ group name numbers =
 unfoldable pub own_keys : List Key
 own_keys = own (codes "major") ∷ own (codes "minor") ∷ own (codes "first_patch") ∷ own (codes "last_patch") ∷ []
 
+-- the groups of types, and of where instances have their attributes, each with its numbers
 unfoldable pub types_keys : List Key
 types_keys = group (codes "type") (codes "size" ∷ codes "basicsize" ∷ codes "itemsize" ∷ codes "repr"
     ∷ codes "str" ∷ codes "flags" ∷ codes "weaklist" ∷ codes "methods" ∷ codes "members" ∷ codes "getset"
@@ -55,6 +56,7 @@ types_keys = group (codes "type") (codes "size" ∷ codes "basicsize" ∷ codes 
     ∷ codes "valid" ∷ codes "items" ∷ [])
     ++ (group (codes "values_before") (codes "prefix" ∷ codes "used" ∷ [])))))))))
 
+-- the groups of sets, lists, dicts and deques, each with its numbers
 unfoldable pub containers_keys : List Key
 containers_keys = group (codes "set") (codes "size" ∷ codes "used" ∷ codes "mask" ∷ codes "table"
     ∷ codes "small_table" ∷ [])
@@ -73,6 +75,7 @@ containers_keys = group (codes "set") (codes "size" ∷ codes "used" ∷ codes "
     ++ (group (codes "deque_block") (codes "size" ∷ codes "left" ∷ codes "items" ∷ codes "right"
     ∷ [])))))))))))
 
+-- the groups of numbers, bytes, ranges, dates and times, each with its numbers
 unfoldable pub scalars_keys : List Key
 scalars_keys = group (codes "bytearray") (codes "size" ∷ codes "count" ∷ codes "allocated" ∷ codes "bytes"
     ∷ codes "start" ∷ [])
@@ -90,6 +93,7 @@ scalars_keys = group (codes "bytearray") (codes "size" ∷ codes "count" ∷ cod
     ++ (group (codes "timedelta") (codes "size" ∷ codes "days" ∷ codes "seconds" ∷ codes "microseconds"
     ∷ [])))))))))
 
+-- the groups of functions, methods, modules, cells and weak references, each with its numbers
 unfoldable pub callables_keys : List Key
 callables_keys = group (codes "partial") (codes "size" ∷ codes "function" ∷ codes "args" ∷ codes "keywords"
     ∷ [])
@@ -102,6 +106,7 @@ callables_keys = group (codes "partial") (codes "size" ∷ codes "function" ∷ 
     ++ (group (codes "cell") (codes "size" ∷ codes "value" ∷ [])
     ++ (group (codes "weakref") (codes "size" ∷ codes "object" ∷ codes "callback" ∷ []))))))))
 
+-- the groups of code, frames and tracebacks, each with its numbers
 unfoldable pub frames_keys : List Key
 frames_keys = group (codes "code") (codes "size" ∷ codes "flags" ∷ codes "stack_size" ∷ [])
     ++ (group (codes "code_names") (codes "bytecode" ∷ codes "cells" ∷ codes "frees" ∷ [])
@@ -114,6 +119,7 @@ frames_keys = group (codes "code") (codes "size" ∷ codes "flags" ∷ codes "st
     ++ (group (codes "traceback") (codes "size" ∷ codes "next" ∷ codes "frame" ∷ codes "lasti" ∷ codes "line"
     ∷ [])))))))))
 
+-- the groups of a frame's stack of values and its state, each with its numbers
 unfoldable pub stacks_keys : List Key
 stacks_keys = group (codes "stack_pointer") (codes "bottom" ∷ codes "top" ∷ [])
     ++ (group (codes "stack_depth") (codes "bottom" ∷ codes "depth" ∷ codes "state" ∷ [])
@@ -123,6 +129,7 @@ stacks_keys = group (codes "stack_pointer") (codes "bottom" ∷ codes "top" ∷ 
     ++ (group (codes "yield_from") (codes "opcode" ∷ [])
     ++ (group (codes "resume") (codes "first" ∷ codes "second" ∷ [])))))))
 
+-- the groups of generators, coroutines and what holds one of them, each with its numbers
 unfoldable pub coroutines_keys : List Key
 coroutines_keys = group (codes "generator") (codes "size" ∷ codes "name" ∷ codes "qualname" ∷ [])
     ++ (group (codes "coroutine") (codes "size" ∷ codes "name" ∷ codes "qualname" ∷ [])
@@ -136,6 +143,7 @@ coroutines_keys = group (codes "generator") (codes "size" ∷ codes "name" ∷ c
     ++ (group (codes "athrow") (codes "size" ∷ codes "held" ∷ [])
     ++ (group (codes "anext_awaitable") (codes "size" ∷ codes "held" ∷ [])))))))))))
 
+-- the groups of futures, tasks and handles of asyncio, each with its numbers
 unfoldable pub tasks_keys : List Key
 tasks_keys = group (codes "future") (codes "size" ∷ codes "loop" ∷ codes "callback0" ∷ codes "callbacks"
     ∷ codes "exception" ∷ codes "result" ∷ codes "state" ∷ [])
@@ -148,6 +156,7 @@ tasks_keys = group (codes "future") (codes "size" ∷ codes "loop" ∷ codes "ca
     ++ (group (codes "handle") (codes "size" ∷ codes "args" ∷ codes "callback" ∷ codes "cancelled" ∷ [])
     ++ (group (codes "timer_handle") (codes "size" ∷ codes "when" ∷ []))))))))
 
+-- the groups of locks, and queues that wait by one, each with its numbers
 unfoldable pub locks_keys : List Key
 locks_keys = group (codes "lock") (codes "size" ∷ codes "semaphore" ∷ codes "locked" ∷ [])
     ++ (group (codes "lock_mutex") (codes "size" ∷ codes "mutex" ∷ [])
@@ -157,6 +166,7 @@ locks_keys = group (codes "lock") (codes "size" ∷ codes "semaphore" ∷ codes 
     ++ (group (codes "runtime_lock") (codes "size" ∷ codes "place" ∷ [])
     ++ (group (codes "interpreter_lock") (codes "size" ∷ [])))))))
 
+-- the groups of exceptions, and of where a thread has those raised and handled, each with its numbers
 unfoldable pub exceptions_keys : List Key
 exceptions_keys = group (codes "exception") (codes "size" ∷ codes "dict" ∷ codes "args" ∷ codes "traceback"
     ∷ codes "context" ∷ codes "cause" ∷ codes "suppress_context" ∷ [])
@@ -173,6 +183,7 @@ exceptions_keys = group (codes "exception") (codes "size" ∷ codes "dict" ∷ c
     ++ (group (codes "raised") (codes "exception" ∷ [])
     ++ (group (codes "handled") (codes "newest" ∷ codes "oldest" ∷ [])))))))))))
 
+-- the groups of interpreters, the collector and pymalloc, each with its numbers
 unfoldable pub heap_keys : List Key
 heap_keys = group (codes "interpreter") (codes "next" ∷ [])
     ++ (group (codes "runtime_collector") (codes "generations" ∷ codes "permanent" ∷ codes "collecting" ∷ [])
@@ -186,6 +197,7 @@ heap_keys = group (codes "interpreter") (codes "next" ∷ [])
     ++ (group (codes "arenas_inside") (codes "arenas" ∷ codes "count" ∷ [])
     ++ (group (codes "arenas_behind") (codes "state" ∷ codes "arenas" ∷ codes "count" ∷ [])))))))))
 
+-- all keys of a table of records, in the order in which they are looked at
 unfoldable pub the_keys : List Key
 the_keys = ((((((((((own_keys ++ types_keys) ++ containers_keys) ++ scalars_keys) ++ callables_keys) ++ frames_keys)
     ++ stacks_keys) ++ coroutines_keys) ++ tasks_keys) ++ locks_keys) ++ exceptions_keys) ++ heap_keys

@@ -16,43 +16,56 @@ use Rattle.py_records.specs.declared.locks.RuntimeLockRecord.{RuntimeLockRecord}
 use Rattle.py_records.specs.declared.locks.InterpreterLockRecord.{InterpreterLockRecord}
 use Rattle.py_records.specs.declared.locks.LockRecords.{LockRecords}
 
+-- offsets and widths, in bytes, in a `lockobject`: `lock_lock`, `locked`
 unfoldable pub lock_places : LockRecord → List Place
 lock_places r = (r.semaphore, 8) ∷ (r.locked, 1) ∷ []
 
+-- a `lockobject`: its fields stand inside its size, of 1 to 65535 bytes, and no two meet
 abbrev pub IsSoundLock : LockRecord → Type 0
 IsSoundLock r = IsRecord r.size (lock_places r)
 
+-- offset and width, in bytes, of `lock`, a mutex of 1 byte, in a `lockobject` of later 3.13
 unfoldable pub lock_mutex_places : LockMutexRecord → List Place
 lock_mutex_places r = (r.mutex, 1) ∷ []
 
+-- a `lockobject` of later 3.13: its field stands inside its size, of 1 to 65535 bytes
 abbrev pub IsSoundLockMutex : LockMutexRecord → Type 0
 IsSoundLockMutex r = IsRecord r.size (lock_mutex_places r)
 
+-- offsets and widths, in bytes, in an `rlockobject`: `rlock_lock`, `rlock_owner`, `rlock_count`
 unfoldable pub rlock_places : RlockRecord → List Place
 rlock_places r = (r.semaphore, 8) ∷ (r.owner, 8) ∷ (r.count, 8) ∷ []
 
+-- an `rlockobject`: its fields stand inside its size, of 1 to 65535 bytes, and no two meet
 abbrev pub IsSoundRlock : RlockRecord → Type 0
 IsSoundRlock r = IsRecord r.size (rlock_places r)
 
+-- offset and width, in bytes, of `lock` in a `simplequeueobject` up to 3.12
 unfoldable pub simple_queue_places : SimpleQueueRecord → List Place
 simple_queue_places r = (r.semaphore, 8) ∷ []
 
+-- a `simplequeueobject` up to 3.12: its field stands inside its size, of 1 to 65535 bytes
 abbrev pub IsSoundSimpleQueue : SimpleQueueRecord → Type 0
 IsSoundSimpleQueue r = IsRecord r.size (simple_queue_places r)
 
+-- offset and width, in bytes, of `has_threads_waiting` in a `simplequeueobject` from 3.13 on
 unfoldable pub simple_queue_parked_places : SimpleQueueParkedRecord → List Place
 simple_queue_parked_places r = (r.waiting, 1) ∷ []
 
+-- a `simplequeueobject` from 3.13 on: its field stands inside its size, of 1 to 65535 bytes
 abbrev pub IsSoundSimpleQueueParked : SimpleQueueParkedRecord → Type 0
 IsSoundSimpleQueueParked r = IsRecord r.size (simple_queue_parked_places r)
 
+-- the size of `_gil_runtime_state` is of 1 to 65535 bytes, and its offset in `_PyRuntimeState` below 2^20
 pub record IsSoundRuntimeLock (r : RuntimeLockRecord) : Type 0 where
   pub fields : IsRecord r.size []
   pub constants : ArePlain (r.place ∷ [])
 
+-- the size of `_gil_runtime_state` is of 1 to 65535 bytes
 abbrev pub IsSoundInterpreterLock : InterpreterLockRecord → Type 0
 IsSoundInterpreterLock r = IsRecord r.size []
 
+-- each group of locks, and of queues that wait by one, that is there is sound
 pub record AreSoundLocks (r : LockRecords) : Type 0 where
   pub lock : IfSome r.lock IsSoundLock
   pub lock_mutex : IfSome r.lock_mutex IsSoundLockMutex
@@ -62,6 +75,7 @@ pub record AreSoundLocks (r : LockRecords) : Type 0 where
   pub runtime_lock : IfSome r.runtime_lock IsSoundRuntimeLock
   pub interpreter_lock : IfSome r.interpreter_lock IsSoundInterpreterLock
 
+-- the group `lock`: size and field offsets of a `lockobject` (Modules/_threadmodule.c)
 abbrev pub lock_in : Members → LockRecord
 lock_in ms = record {
   size = number_at ms None (codes "size");
@@ -69,12 +83,14 @@ lock_in ms = record {
   locked = number_at ms None (codes "locked");
 }
 
+-- the group `lock_mutex`: size and the field's offset of a `lockobject` of later 3.13 (Modules/_threadmodule.c)
 abbrev pub lock_mutex_in : Members → LockMutexRecord
 lock_mutex_in ms = record {
   size = number_at ms None (codes "size");
   mutex = number_at ms None (codes "mutex");
 }
 
+-- the group `rlock`: size and field offsets of an `rlockobject` (Modules/_threadmodule.c)
 abbrev pub rlock_in : Members → RlockRecord
 rlock_in ms = record {
   size = number_at ms None (codes "size");
@@ -83,29 +99,34 @@ rlock_in ms = record {
   count = number_at ms None (codes "count");
 }
 
+-- the group `simple_queue`: size and the field's offset of a `simplequeueobject` up to 3.12 (Modules/_queuemodule.c)
 abbrev pub simple_queue_in : Members → SimpleQueueRecord
 simple_queue_in ms = record {
   size = number_at ms None (codes "size");
   semaphore = number_at ms None (codes "semaphore");
 }
 
+-- the group `simple_queue_parked`: size and field offset of a `simplequeueobject` from 3.13 on
 abbrev pub simple_queue_parked_in : Members → SimpleQueueParkedRecord
 simple_queue_parked_in ms = record {
   size = number_at ms None (codes "size");
   waiting = number_at ms None (codes "waiting");
 }
 
+-- the group `runtime_lock`: size of `_gil_runtime_state`, and its offset in `_PyRuntimeState`, up to 3.11
 abbrev pub runtime_lock_in : Members → RuntimeLockRecord
 runtime_lock_in ms = record {
   size = number_at ms None (codes "size");
   place = number_at ms None (codes "place");
 }
 
+-- the group `interpreter_lock`: the size of `_gil_runtime_state`, the GIL's record, from 3.12 on
 abbrev pub interpreter_lock_in : Members → InterpreterLockRecord
 interpreter_lock_in ms = record {
   size = number_at ms None (codes "size");
 }
 
+-- the groups of locks, and of queues that wait by one, that a table has
 unfoldable pub locks_from : Members → LockRecords
 locks_from ms = record {
   lock = option_map lock_in (group_at ms (codes "lock"));

@@ -7,6 +7,6 @@ use Rattle.py_fields.specs.Sound.{IsPlain}
 abbrev pub ArePlain : List ℕ → Type 0
 ArePlain numbers = AllByRecursion IsPlain numbers
 
--- at one place both lists have true
+-- whether both lists have true at one place
 abbrev pub any_both : List Bool → List Bool → Bool
 any_both one other = list_any (λ both. both.0 && both.1) (zip one other)

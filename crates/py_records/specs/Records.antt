@@ -18,6 +18,7 @@ use Rattle.py_records.specs.Exceptions.{share_exceptions}
 use Rattle.py_records.specs.Heap.{AreSoundHeap, heap_from, no_heap, joined_heap, share_heap}
 use Rattle.py_records.specs.declared.records.Records.{Records}
 
+-- each group of a table that is there is sound
 pub record AreSoundRecords (r : Records) : Type 0 where
   pub types : AreSoundTypes r.types
   pub containers : AreSoundContainers r.containers
@@ -31,6 +32,7 @@ pub record AreSoundRecords (r : Records) : Type 0 where
   pub exceptions : AreSoundExceptions r.exceptions
   pub heap : AreSoundHeap r.heap
 
+-- all groups that a table has, by kind
 unfoldable pub records_from : Members → Records
 records_from ms = record {
   types = types_from ms;

@@ -18,60 +18,79 @@ use Rattle.py_records.specs.declared.scalars.DatetimeRecord.{DatetimeRecord}
 use Rattle.py_records.specs.declared.scalars.TimedeltaRecord.{TimedeltaRecord}
 use Rattle.py_records.specs.declared.scalars.ScalarRecords.{ScalarRecords}
 
+-- offsets and widths, in bytes, in a `PyByteArrayObject`: `ob_size`, `ob_alloc`, `ob_bytes`, `ob_start`
 unfoldable pub bytearray_places : BytearrayRecord → List Place
 bytearray_places r = (r.count, 8) ∷ (r.allocated, 8) ∷ (r.bytes, 8) ∷ (r.start, 8) ∷ []
 
+-- a `PyByteArrayObject`: its fields stand inside its size, of 1 to 65535 bytes, and no two meet
 abbrev pub IsSoundBytearray : BytearrayRecord → Type 0
 IsSoundBytearray r = IsRecord r.size (bytearray_places r)
 
+-- offsets and widths, in bytes, in a `PyComplexObject`: `cval.real`, `cval.imag`
 unfoldable pub complex_places : ComplexRecord → List Place
 complex_places r = (r.real, 8) ∷ (r.imag, 8) ∷ []
 
+-- a `PyComplexObject`: its fields stand inside its size, of 1 to 65535 bytes, and no two meet
 abbrev pub IsSoundComplex : ComplexRecord → Type 0
 IsSoundComplex r = IsRecord r.size (complex_places r)
 
+-- offsets and widths, in bytes, in a `rangeobject`: `start`, `stop`, `step`, `length`
 unfoldable pub range_places : RangeRecord → List Place
 range_places r = (r.start, 8) ∷ (r.stop, 8) ∷ (r.step, 8) ∷ (r.length, 8) ∷ []
 
+-- a `rangeobject`: its fields stand inside its size, of 1 to 65535 bytes, and no two meet
 abbrev pub IsSoundRange : RangeRecord → Type 0
 IsSoundRange r = IsRecord r.size (range_places r)
 
+-- offsets and widths, in bytes, in a `PySliceObject`: `start`, `stop`, `step`
 unfoldable pub slice_places : SliceRecord → List Place
 slice_places r = (r.start, 8) ∷ (r.stop, 8) ∷ (r.step, 8) ∷ []
 
+-- a `PySliceObject`: its fields stand inside its size, of 1 to 65535 bytes, and no two meet
 abbrev pub IsSoundSlice : SliceRecord → Type 0
 IsSoundSlice r = IsRecord r.size (slice_places r)
 
+-- offsets and widths, in bytes, in a `PyDecObject`: `dec.flags`, `exp`, `digits`, `len`, `data`
 unfoldable pub decimal_places : DecimalRecord → List Place
 decimal_places r = (r.flags, 1) ∷ (r.exponent, 8) ∷ (r.digits, 8) ∷ (r.words, 8) ∷ (r.coefficient, 8) ∷ []
 
+-- a `PyDecObject`: its fields stand inside its size, of 1 to 65535 bytes, and no two meet
 abbrev pub IsSoundDecimal : DecimalRecord → Type 0
 IsSoundDecimal r = IsRecord r.size (decimal_places r)
 
+-- offset and width, in bytes, of `data` in a `PyDateTime_Date`
 unfoldable pub date_places : DateRecord → List Place
 date_places r = (r.packed, 4) ∷ []
 
+-- a `PyDateTime_Date`: its field stands inside its size, of 1 to 65535 bytes
 abbrev pub IsSoundDate : DateRecord → Type 0
 IsSoundDate r = IsRecord r.size (date_places r)
 
+-- offsets and widths, in bytes, in a `PyDateTime_Time`: `hastzinfo`, `data`, `fold`, `tzinfo`
 unfoldable pub time_places : TimeRecord → List Place
 time_places r = (r.has_zone, 1) ∷ (r.packed, 6) ∷ (r.fold, 1) ∷ (r.zone, 8) ∷ []
 
+-- a `PyDateTime_Time`: its fields stand inside its size, of 1 to 65535 bytes, and no two meet
 abbrev pub IsSoundTime : TimeRecord → Type 0
 IsSoundTime r = IsRecord r.size (time_places r)
 
+-- offsets and widths, in bytes, in a `PyDateTime_DateTime`: `hastzinfo`, `data`, `fold`, `tzinfo`
 unfoldable pub datetime_places : DatetimeRecord → List Place
 datetime_places r = (r.has_zone, 1) ∷ (r.packed, 10) ∷ (r.fold, 1) ∷ (r.zone, 8) ∷ []
 
+-- a `PyDateTime_DateTime`: its fields stand inside its size, of 1 to 65535 bytes, and no two meet
 abbrev pub IsSoundDatetime : DatetimeRecord → Type 0
 IsSoundDatetime r = IsRecord r.size (datetime_places r)
 
+-- offsets and widths, in bytes, in a `PyDateTime_Delta`: `days`, `seconds`, `microseconds`
 unfoldable pub timedelta_places : TimedeltaRecord → List Place
 timedelta_places r = (r.days, 4) ∷ (r.seconds, 4) ∷ (r.microseconds, 4) ∷ []
 
+-- a `PyDateTime_Delta`: its fields stand inside its size, of 1 to 65535 bytes, and no two meet
 abbrev pub IsSoundTimedelta : TimedeltaRecord → Type 0
 IsSoundTimedelta r = IsRecord r.size (timedelta_places r)
 
+-- each group of numbers, bytes, ranges, dates and times that is there is sound
 pub record AreSoundScalars (r : ScalarRecords) : Type 0 where
   pub bytearray : IfSome r.bytearray IsSoundBytearray
   pub complex : IfSome r.complex IsSoundComplex
@@ -83,6 +102,7 @@ pub record AreSoundScalars (r : ScalarRecords) : Type 0 where
   pub datetime : IfSome r.datetime IsSoundDatetime
   pub timedelta : IfSome r.timedelta IsSoundTimedelta
 
+-- the group `bytearray`: size and field offsets of a `PyByteArrayObject` (Include/bytearrayobject.h)
 abbrev pub bytearray_in : Members → BytearrayRecord
 bytearray_in ms = record {
   size = number_at ms None (codes "size");
@@ -92,6 +112,7 @@ bytearray_in ms = record {
   start = number_at ms None (codes "start");
 }
 
+-- the group `complex`: size and field offsets of a `PyComplexObject` (Include/complexobject.h)
 abbrev pub complex_in : Members → ComplexRecord
 complex_in ms = record {
   size = number_at ms None (codes "size");
@@ -99,6 +120,7 @@ complex_in ms = record {
   imag = number_at ms None (codes "imag");
 }
 
+-- the group `range`: size and field offsets of a `rangeobject` (Objects/rangeobject.c)
 abbrev pub range_in : Members → RangeRecord
 range_in ms = record {
   size = number_at ms None (codes "size");
@@ -108,6 +130,7 @@ range_in ms = record {
   length = number_at ms None (codes "length");
 }
 
+-- the group `slice`: size and field offsets of a `PySliceObject` (Include/sliceobject.h)
 abbrev pub slice_in : Members → SliceRecord
 slice_in ms = record {
   size = number_at ms None (codes "size");
@@ -116,6 +139,7 @@ slice_in ms = record {
   step = number_at ms None (codes "step");
 }
 
+-- the group `decimal`: size and field offsets of a `PyDecObject` (Modules/_decimal/_decimal.c)
 abbrev pub decimal_in : Members → DecimalRecord
 decimal_in ms = record {
   size = number_at ms None (codes "size");
@@ -126,12 +150,14 @@ decimal_in ms = record {
   coefficient = number_at ms None (codes "data");
 }
 
+-- the group `date`: size and the field's offset of a `PyDateTime_Date` (Include/datetime.h)
 abbrev pub date_in : Members → DateRecord
 date_in ms = record {
   size = number_at ms None (codes "size");
   packed = number_at ms None (codes "data");
 }
 
+-- the group `time`: size and field offsets of a `PyDateTime_Time` (Include/datetime.h)
 abbrev pub time_in : Members → TimeRecord
 time_in ms = record {
   size = number_at ms None (codes "size");
@@ -141,6 +167,7 @@ time_in ms = record {
   zone = number_at ms None (codes "zone");
 }
 
+-- the group `datetime`: size and field offsets of a `PyDateTime_DateTime` (Include/datetime.h)
 abbrev pub datetime_in : Members → DatetimeRecord
 datetime_in ms = record {
   size = number_at ms None (codes "size");
@@ -150,6 +177,7 @@ datetime_in ms = record {
   zone = number_at ms None (codes "zone");
 }
 
+-- the group `timedelta`: size and field offsets of a `PyDateTime_Delta` (Include/datetime.h)
 abbrev pub timedelta_in : Members → TimedeltaRecord
 timedelta_in ms = record {
   size = number_at ms None (codes "size");
@@ -158,6 +186,7 @@ timedelta_in ms = record {
   microseconds = number_at ms None (codes "microseconds");
 }
 
+-- the groups of numbers, bytes, ranges, dates and times that a table has
 unfoldable pub scalars_from : Members → ScalarRecords
 scalars_from ms = record {
   bytearray = option_map bytearray_in (group_at ms (codes "bytearray"));

@@ -15,27 +15,35 @@ use Rattle.py_records.specs.declared.stacks.YieldFromRecord.{YieldFromRecord}
 use Rattle.py_records.specs.declared.stacks.ResumeRecord.{ResumeRecord}
 use Rattle.py_records.specs.declared.stacks.StackRecords.{StackRecords}
 
+-- each offset of the group `stack_pointer` (`f_valuestack`, `f_stacktop`) is below 2^20
 abbrev pub IsSoundStackPointer : StackPointerRecord → Type 0
 IsSoundStackPointer r = ArePlain (r.bottom ∷ r.top ∷ [])
 
+-- each offset of the group `stack_depth` (`f_valuestack`, `f_stackdepth`, `f_state`) is below 2^20
 abbrev pub IsSoundStackDepth : StackDepthRecord → Type 0
 IsSoundStackDepth r = ArePlain (r.bottom ∷ r.depth ∷ r.state ∷ [])
 
+-- the offset of the group `stack_count` (`stacktop`) is below 2^20
 abbrev pub IsSoundStackCount : StackCountRecord → Type 0
 IsSoundStackCount r = ArePlain (r.top ∷ [])
 
+-- the bytes for `FRAME_CREATED`, `FRAME_SUSPENDED` and `FRAME_EXECUTING` are below 2^20
 abbrev pub IsSoundStates : StatesRecord → Type 0
 IsSoundStates r = ArePlain (r.created ∷ r.suspended ∷ r.running ∷ [])
 
+-- the byte for `FRAME_SUSPENDED_YIELD_FROM` is below 2^20
 abbrev pub IsSoundAwaitingState : AwaitingStateRecord → Type 0
 IsSoundAwaitingState r = ArePlain (r.state ∷ [])
 
+-- the opcode of `YIELD_FROM` is below 2^20
 abbrev pub IsSoundYieldFrom : YieldFromRecord → Type 0
 IsSoundYieldFrom r = ArePlain (r.opcode ∷ [])
 
+-- both opcodes of `RESUME` are below 2^20
 abbrev pub IsSoundResume : ResumeRecord → Type 0
 IsSoundResume r = ArePlain (r.first ∷ r.second ∷ [])
 
+-- each group of a frame's stack of values and its state that is there is sound
 pub record AreSoundStacks (r : StackRecords) : Type 0 where
   pub stack_pointer : IfSome r.stack_pointer IsSoundStackPointer
   pub stack_depth : IfSome r.stack_depth IsSoundStackDepth
@@ -45,12 +53,14 @@ pub record AreSoundStacks (r : StackRecords) : Type 0 where
   pub yield_from : IfSome r.yield_from IsSoundYieldFrom
   pub resume : IfSome r.resume IsSoundResume
 
+-- the group `stack_pointer`: the offsets of `f_valuestack`, `f_stacktop` in a `PyFrameObject` up to 3.9
 abbrev pub stack_pointer_in : Members → StackPointerRecord
 stack_pointer_in ms = record {
   bottom = number_at ms None (codes "bottom");
   top = number_at ms None (codes "top");
 }
 
+-- the group `stack_depth`: the offsets of `f_valuestack`, `f_stackdepth`, `f_state` in a `PyFrameObject` of 3.10
 abbrev pub stack_depth_in : Members → StackDepthRecord
 stack_depth_in ms = record {
   bottom = number_at ms None (codes "bottom");
@@ -58,11 +68,13 @@ stack_depth_in ms = record {
   state = number_at ms None (codes "state");
 }
 
+-- the group `stack_count`: the offset of `stacktop` in a `_PyInterpreterFrame` from 3.11 on
 abbrev pub stack_count_in : Members → StackCountRecord
 stack_count_in ms = record {
   top = number_at ms None (codes "top");
 }
 
+-- the group `states`: the bytes for `FRAME_CREATED`, `FRAME_SUSPENDED` and `FRAME_EXECUTING`
 abbrev pub states_in : Members → StatesRecord
 states_in ms = record {
   created = number_at ms None (codes "created");
@@ -70,22 +82,26 @@ states_in ms = record {
   running = number_at ms None (codes "running");
 }
 
+-- the group `awaiting_state`: the byte for `FRAME_SUSPENDED_YIELD_FROM`, from 3.13 on
 abbrev pub awaiting_state_in : Members → AwaitingStateRecord
 awaiting_state_in ms = record {
   state = number_at ms None (codes "state");
 }
 
+-- the group `yield_from`: the opcode of `YIELD_FROM`, up to 3.10 (Include/opcode.h)
 abbrev pub yield_from_in : Members → YieldFromRecord
 yield_from_in ms = record {
   opcode = number_at ms None (codes "opcode");
 }
 
+-- the group `resume`: the opcodes of `RESUME`, and of `RESUME_QUICK` (3.11) or `INSTRUMENTED_RESUME`
 abbrev pub resume_in : Members → ResumeRecord
 resume_in ms = record {
   first = number_at ms None (codes "first");
   second = number_at ms None (codes "second");
 }
 
+-- the groups of a frame's stack of values and its state that a table has
 unfoldable pub stacks_from : Members → StackRecords
 stacks_from ms = record {
   stack_pointer = option_map stack_pointer_in (group_at ms (codes "stack_pointer"));

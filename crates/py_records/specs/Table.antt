@@ -24,6 +24,7 @@ pub record IsRange (t : RecordTable) : Type 0 where
   pub last_patch : t.last_patch ≤ 999
   pub ordered : t.first_patch ≤ t.last_patch
 
+-- a table's numbers are those of versions, and each of its groups is sound
 pub record IsSoundTable (t : RecordTable) : Type 0 where
   pub range : IsRange t
   pub records : AreSoundRecords t.records

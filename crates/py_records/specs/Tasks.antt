@@ -15,41 +15,53 @@ use Rattle.py_records.specs.declared.tasks.HandleRecord.{HandleRecord}
 use Rattle.py_records.specs.declared.tasks.TimerHandleRecord.{TimerHandleRecord}
 use Rattle.py_records.specs.declared.tasks.TaskRecords.{TaskRecords}
 
+-- offsets and widths, in bytes, in a `FutureObj`: `fut_loop`, `fut_callback0`, `fut_state` and the like
 unfoldable pub future_places : FutureRecord → List Place
 future_places r = (r.event_loop, 8) ∷ (r.callback0, 8) ∷ (r.callbacks, 8) ∷ (r.exception, 8) ∷ (r.result, 8)
     ∷ (r.state, 4) ∷ []
 
+-- a `FutureObj`: its fields stand inside its size, of 1 to 65535 bytes, and no two meet
 abbrev pub IsSoundFuture : FutureRecord → Type 0
 IsSoundFuture r = IsRecord r.size (future_places r)
 
+-- offsets and widths, in bytes, in a `TaskObj`: `task_fut_waiter`, `task_coro`, `task_must_cancel`
 unfoldable pub task_places : TaskRecord → List Place
 task_places r = (r.waiter, 8) ∷ (r.coro, 8) ∷ (r.cancel, 1) ∷ []
 
+-- a `TaskObj`: its fields stand inside its size, and no two meet; the number of the cancel bit is below 2^20
 pub record IsSoundTask (r : TaskRecord) : Type 0 where
   pub fields : IsRecord r.size (task_places r)
   pub constants : ArePlain (r.cancel_bit ∷ [])
 
+-- the offset of `task_name` in a `TaskObj` is below 2^20
 abbrev pub IsSoundTaskName : TaskNameRecord → Type 0
 IsSoundTaskName r = ArePlain (r.name ∷ [])
 
+-- offset and width, in bytes, of the address of the future or task that an object of asyncio holds
 unfoldable pub carrier_places : CarrierRecord → List Place
 carrier_places r = (r.held, 8) ∷ []
 
+-- an object that holds a future or task: that one's address stands inside its size, of 1 to 65535 bytes
 abbrev pub IsSoundCarrier : CarrierRecord → Type 0
 IsSoundCarrier r = IsRecord r.size (carrier_places r)
 
+-- offsets and widths, in bytes, in a `Handle`: the slots `_args`, `_callback`, `_cancelled`
 unfoldable pub handle_places : HandleRecord → List Place
 handle_places r = (r.args, 8) ∷ (r.callback, 8) ∷ (r.cancelled, 8) ∷ []
 
+-- a `Handle`: its fields stand inside its size, of 1 to 65535 bytes, and no two meet
 abbrev pub IsSoundHandle : HandleRecord → Type 0
 IsSoundHandle r = IsRecord r.size (handle_places r)
 
+-- offset and width, in bytes, of the slot `_when` in a `TimerHandle`
 unfoldable pub timer_handle_places : TimerHandleRecord → List Place
 timer_handle_places r = (r.when, 8) ∷ []
 
+-- a `TimerHandle`: its field stands inside its size, of 1 to 65535 bytes
 abbrev pub IsSoundTimerHandle : TimerHandleRecord → Type 0
 IsSoundTimerHandle r = IsRecord r.size (timer_handle_places r)
 
+-- each group of futures, tasks and handles of asyncio that is there is sound
 pub record AreSoundTasks (r : TaskRecords) : Type 0 where
   pub future : IfSome r.future IsSoundFuture
   pub task : IfSome r.task IsSoundTask
@@ -60,6 +72,7 @@ pub record AreSoundTasks (r : TaskRecords) : Type 0 where
   pub handle : IfSome r.handle IsSoundHandle
   pub timer_handle : IfSome r.timer_handle IsSoundTimerHandle
 
+-- the group `future`: size and field offsets of a `FutureObj` (Modules/_asynciomodule.c)
 abbrev pub future_in : Members → FutureRecord
 future_in ms = record {
   size = number_at ms None (codes "size");
@@ -71,6 +84,7 @@ future_in ms = record {
   state = number_at ms None (codes "state");
 }
 
+-- the group `task`: size and field offsets of a `TaskObj` (Modules/_asynciomodule.c), and the cancel bit
 abbrev pub task_in : Members → TaskRecord
 task_in ms = record {
   size = number_at ms None (codes "size");
@@ -80,17 +94,20 @@ task_in ms = record {
   cancel_bit = number_at ms None (codes "cancel_bit");
 }
 
+-- the group `task_name`: the offset of `task_name` in a `TaskObj` from 3.8 on
 abbrev pub task_name_in : Members → TaskNameRecord
 task_name_in ms = record {
   name = number_at ms None (codes "name");
 }
 
+-- the group of an object that holds a future or task (such as `futureiterobject`): its size and that address's offset
 abbrev pub carrier_in : Members → CarrierRecord
 carrier_in ms = record {
   size = number_at ms None (codes "size");
   held = number_at ms None (codes "held");
 }
 
+-- the group `handle`: size and field offsets of a `Handle` (Lib/asyncio/events.py)
 abbrev pub handle_in : Members → HandleRecord
 handle_in ms = record {
   size = number_at ms None (codes "size");
@@ -99,12 +116,14 @@ handle_in ms = record {
   cancelled = number_at ms None (codes "cancelled");
 }
 
+-- the group `timer_handle`: size and the field's offset of a `TimerHandle` (Lib/asyncio/events.py)
 abbrev pub timer_handle_in : Members → TimerHandleRecord
 timer_handle_in ms = record {
   size = number_at ms None (codes "size");
   when = number_at ms None (codes "when");
 }
 
+-- the groups of futures, tasks and handles of asyncio that a table has
 unfoldable pub tasks_from : Members → TaskRecords
 tasks_from ms = record {
   future = option_map future_in (group_at ms (codes "future"));

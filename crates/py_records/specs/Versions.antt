@@ -22,6 +22,7 @@ abbrev pub group_of : {G : Type 0} → (Records → Option G) → List RecordTab
 group_of field [] v = None
 group_of field (t ∷ ts) v = option_or (cond (covers t v) (field t.records) None) (group_of field ts v)
 
+-- a version's groups of types and instances' attributes, each from the first of its tables that has it
 unfoldable pub types_of : List RecordTable → Version → TypeRecords
 types_of ts v = record {
   klass = group_of (λ r. r.types.klass) ts v;
@@ -35,6 +36,7 @@ types_of ts v = record {
   values_before = group_of (λ r. r.types.values_before) ts v;
 }
 
+-- a version's groups of sets, lists, dicts and deques, each from the first of its tables that has it
 unfoldable pub containers_of : List RecordTable → Version → ContainerRecords
 containers_of ts v = record {
   set = group_of (λ r. r.containers.set) ts v;
@@ -50,6 +52,7 @@ containers_of ts v = record {
   deque_block = group_of (λ r. r.containers.deque_block) ts v;
 }
 
+-- a version's groups of numbers, bytes, ranges, dates and times, each from the first of its tables that has it
 unfoldable pub scalars_of : List RecordTable → Version → ScalarRecords
 scalars_of ts v = record {
   bytearray = group_of (λ r. r.scalars.bytearray) ts v;
@@ -63,6 +66,7 @@ scalars_of ts v = record {
   timedelta = group_of (λ r. r.scalars.timedelta) ts v;
 }
 
+-- a version's groups of functions, methods, modules and the like, each from the first of its tables that has it
 unfoldable pub callables_of : List RecordTable → Version → CallableRecords
 callables_of ts v = record {
   partial = group_of (λ r. r.callables.partial) ts v;
@@ -75,6 +79,7 @@ callables_of ts v = record {
   weakref = group_of (λ r. r.callables.weakref) ts v;
 }
 
+-- a version's groups of code, frames and tracebacks, each from the first of its tables that has it
 unfoldable pub frames_of : List RecordTable → Version → FrameRecords
 frames_of ts v = record {
   code = group_of (λ r. r.frames.code) ts v;
@@ -88,6 +93,7 @@ frames_of ts v = record {
   traceback = group_of (λ r. r.frames.traceback) ts v;
 }
 
+-- a version's groups of a frame's stack of values and its state, each from the first of its tables that has it
 unfoldable pub stacks_of : List RecordTable → Version → StackRecords
 stacks_of ts v = record {
   stack_pointer = group_of (λ r. r.stacks.stack_pointer) ts v;
@@ -99,6 +105,7 @@ stacks_of ts v = record {
   resume = group_of (λ r. r.stacks.resume) ts v;
 }
 
+-- a version's groups of generators, coroutines and their holders, each from the first of its tables that has it
 unfoldable pub coroutines_of : List RecordTable → Version → CoroutineRecords
 coroutines_of ts v = record {
   generator = group_of (λ r. r.coroutines.generator) ts v;
@@ -114,6 +121,7 @@ coroutines_of ts v = record {
   anext_awaitable = group_of (λ r. r.coroutines.anext_awaitable) ts v;
 }
 
+-- a version's groups of futures, tasks and handles of asyncio, each from the first of its tables that has it
 unfoldable pub tasks_of : List RecordTable → Version → TaskRecords
 tasks_of ts v = record {
   future = group_of (λ r. r.tasks.future) ts v;
@@ -126,6 +134,7 @@ tasks_of ts v = record {
   timer_handle = group_of (λ r. r.tasks.timer_handle) ts v;
 }
 
+-- a version's groups of locks, and queues that wait by one, each from the first of its tables that has it
 unfoldable pub locks_of : List RecordTable → Version → LockRecords
 locks_of ts v = record {
   lock = group_of (λ r. r.locks.lock) ts v;
@@ -137,6 +146,7 @@ locks_of ts v = record {
   interpreter_lock = group_of (λ r. r.locks.interpreter_lock) ts v;
 }
 
+-- a version's groups of exceptions, and of where threads have them, each from the first of its tables that has it
 unfoldable pub exceptions_of : List RecordTable → Version → ExceptionRecords
 exceptions_of ts v = record {
   exception = group_of (λ r. r.exceptions.exception) ts v;
@@ -152,6 +162,7 @@ exceptions_of ts v = record {
   handled = group_of (λ r. r.exceptions.handled) ts v;
 }
 
+-- a version's groups of interpreters, the collector and pymalloc, each from the first of its tables that has it
 unfoldable pub heap_of : List RecordTable → Version → HeapRecords
 heap_of ts v = record {
   interpreter = group_of (λ r. r.heap.interpreter) ts v;
@@ -165,6 +176,7 @@ heap_of ts v = record {
   arenas_behind = group_of (λ r. r.heap.arenas_behind) ts v;
 }
 
+-- all groups of a version, each from the first of its tables that has it
 unfoldable pub records_of : List RecordTable → Version → Records
 records_of ts v = record {
   types = types_of ts v;

@@ -587,7 +587,7 @@ fn heap_keys() -> &'static [Key]
     &HEAP
 }
 
-/// Puts keys behind others. The one error is want of memory.
+/// Puts keys behind others. The one error is out of memory.
 fn push_keys(keys: &mut Vec<Key>, more: &[Key]) -> Result<(), AllocError>
     ensures { OnOk result (map key_of keys.new.items ≡ map key_of keys.old.items ++ map key_of more.now) }
 {
@@ -597,7 +597,7 @@ fn push_keys(keys: &mut Vec<Key>, more: &[Key]) -> Result<(), AllocError>
     Ok(())
 }
 
-/// All keys, in the order in which they are looked at. The one error is want of memory.
+/// All keys, in the order in which they are looked at. The one error is out of memory.
 pub fn keys(alloc: Global) -> Result<Vec<Key>, AllocError>
     ensures { IfOk result (λ keys. map key_of keys.items ≡ the_keys) }
 {

@@ -30,6 +30,7 @@ pub record Held : Type 0 where
   pub list : List Attribute
   pub count : ℕ
 
+-- attributes that are held, and how many there are in all
 abbrev pub held : List Attribute → ℕ → Held
 held list count = record { list = list; count = count }
 
@@ -41,6 +42,7 @@ stated_at l m (Dict a) = do
   Ok (Some used)
 stated_at l m (Values keys values) = Ok None
 
+-- how many attributes there are: the number in use where it is told, else the found ones and the slots left
 abbrev pub count_of : Option ℕ → (found left : ℕ) → ℕ
 count_of (Some used) found left = used
 count_of None found left = min (found + left) (2 ^ 64 - 1)
@@ -53,20 +55,25 @@ attributes_at l r m limit a = do
   told ← dict_attributes_at l m r.form dict limit
   Ok (held told.list (count_of stated (length told.list) told.left))
 
+-- the attributes, where they can be read
 abbrev pub found_or_none : Found Held → Option Held
 found_or_none (Ok h) = Some h
 found_or_none (Err f) = None
 
+-- where an attribute's name stands
 abbrev pub name_place : Attribute → Place
 name_place a = At a.name
 
+-- where an attribute's value stands
 abbrev pub value_place : Attribute → Place
 value_place a = At a.value
 
+-- an instance with its first attributes, and how many are left out
 abbrev pub attributes_in : Option (List ℕ) → (addr nodes count shown : ℕ) → List Attribute → Level
 attributes_in class a nodes count shown first =
     Attributes class a (map name_place first) (map value_place first) (share nodes (2 * shown)) (count - shown)
 
+-- an instance with its first attributes, as many as are shown
 abbrev pub attributes_by : Limits → Option (List ℕ) → (addr nodes : ℕ) → Held → (shown : ℕ) → Level
 attributes_by b class a nodes h shown = attributes_in class a nodes h.count shown (take shown h.list)
 
@@ -75,28 +82,33 @@ abbrev pub attributes_level : Limits → Option (List ℕ) → (addr nodes : ℕ
 attributes_level b class a nodes h = if length h.list == 0 then Whole (Opaque class a)
     else attributes_by b class a nodes h (shown_entries b.items nodes (length h.list))
 
+-- an instance with its attributes; its class and address alone where they can't be read
 abbrev pub instance_by : Limits → Option (List ℕ) → (addr nodes : ℕ) → Option Held → Level
 instance_by b class a nodes None = Whole (Opaque class a)
 instance_by b class a nodes (Some h) = attributes_level b class a nodes h
 
 -- ---- as it is read
 
+-- the attributes that were read
 abbrev pub held_of : InstanceAttributes → Held
 held_of a = held a.list.items a.count
 
+-- a result with the attributes that were read
 abbrev pub held_found : {E : Type 0} → Result InstanceAttributes E → Result Held E
 held_found (Ok a) = Ok (held_of a)
 held_found (Err e) = Err e
 
+-- the attributes that were read, where there are some
 abbrev pub held_if : Option InstanceAttributes → Option Held
 held_if None = None
 held_if (Some a) = Some (held_of a)
 
+-- no attributes are told for a fault; an error is out of memory
 abbrev pub IsLost : Option Fault → Result (Option InstanceAttributes) ReprError → Type 0
 IsLost None result = result ≡ Err OutOfMemory
 IsLost (Some f) result = result ≡ Ok None
 
--- what was read, or nothing where that can't be; want of memory is handed on
+-- what was read, or nothing where that can't be; out of memory is handed on
 abbrev pub FoundIs : Result InstanceAttributes ObjectError → Result (Option InstanceAttributes) ReprError → Type 0
 FoundIs (Ok a) result = result ≡ Ok (Some a)
 FoundIs (Err e) result = IsLost (object_fault e) result

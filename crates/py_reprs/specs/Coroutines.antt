@@ -41,6 +41,7 @@ name_text_at l m place a = do
   at ← word_at m (a + place)
   text_at l m at
 
+-- the name of a coroutine or generator, where it can be read
 unfoldable pub known_name_at : Layout → Memory → (place addr : ℕ) → Found (Option (List ℕ))
 known_name_at l m place a = Ok (if_found (name_text_at l m place a))
 
@@ -55,6 +56,7 @@ abbrev pub state_if : Bool → Found CoroutineState → Option CoroutineState
 state_if true found = if_found found
 state_if false found = None
 
+-- the state of a coroutine or generator, where its family is known and it can be read
 unfoldable pub known_state_at : Memory → Family → (addr : ℕ) → Found (Option CoroutineState)
 known_state_at m family a = Ok (state_if (is_sound_family family) (stated_at m family a))
 
@@ -72,11 +74,12 @@ coroutine_at l m (Some r) form a = coroutine_by l m r form a
 
 -- ---- as it is read
 
+-- nothing is told for a fault; an error is out of memory
 abbrev pub NoneBy : {T : Type 0} → Option Fault → Result (Option T) ObjectError → Type 0
 NoneBy None result = result ≡ Err OutOfMemory
 NoneBy (Some f) result = result ≡ Ok None
 
--- what was read, or none; want of memory is handed on
+-- what was read, or none; out of memory is handed on
 abbrev pub IsOrNone : {T : Type 0} → Result T ObjectError → Result (Option T) ObjectError → Type 0
 IsOrNone (Ok x) result = result ≡ Ok (Some x)
 IsOrNone (Err e) result = NoneBy (object_fault e) result

@@ -10,6 +10,7 @@ front_at m a n = if nat_le (a + n) (2 ^ 64) then record_at m a n else Err (Missi
 
 -- ---- as it is read
 
+-- a result with the bytes that were copied, where they are in memory
 abbrev pub items_or_none : {E : Type 0} → Result (Option (Vec ℕ Global)) E → Result (Option (List ℕ)) E
 items_or_none (Ok bytes) = Ok (option_map (λ (v : Vec ℕ Global). v.items) bytes)
 items_or_none (Err e) = Err e

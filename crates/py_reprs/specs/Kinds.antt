@@ -11,6 +11,7 @@ use Rattle.py_reprs.specs.declared.kinds.Kind.{Kind}
 use Rattle.py_reprs.specs.declared.kinds.Kind.TheVariants as kind
 use Rattle.py_reprs.specs.declared.kinds.ReprTypes.{ReprTypes}
 
+-- whether a layout is one of Python 2
 abbrev pub is_python_2 : Layout → Bool
 is_python_2 l = l.major == 2
 
@@ -42,6 +43,7 @@ python_2_kind flags =
     else if bit_is_set flags 26 then kind.Tuple
     else kind.Other
 
+-- the kind that the flags of a type tell, by the major version (`Py_TPFLAGS_*_SUBCLASS`, Include/object.h)
 abbrev pub flagged_kind : Bool → ℕ → Kind
 flagged_kind true flags = python_2_kind flags
 flagged_kind false flags = python_3_kind flags
@@ -91,6 +93,7 @@ abbrev pub held_kind : Bool → ReprTypes → ℕ → Kind → Kind
 held_kind true t a other = other
 held_kind false t a other = holding_kind t a other
 
+-- the kind of an object, by the address of its type, else by the type's flags
 unfoldable pub kind_of : Layout → ReprTypes → ObjectType → Kind
 kind_of l t class =
     single_kind t class.at (held_kind (is_python_2 l) t class.at (paused_kind t class.at (called_kind t class.at

@@ -41,6 +41,7 @@ use Rattle.py_reprs.specs.Texts.{bytearray_at, bytes_tree_at, head_of, text_tree
 use Rattle.py_reprs.specs.Trees.{Tree, tree_of}
 use Rattle.py_reprs.specs.Trees.Tree.{Absent, Nothing, Ellipsis, NotImplemented, Lost, Damaged}
 
+-- the first items of a row, at consecutive words, and how many are left out
 abbrev pub row_by : Memory → ItemsForm → (nodes count base shown : ℕ) → Level
 row_by m form nodes count base shown = Row form (places_at m base shown) (share nodes shown) (count - shown)
 
@@ -74,6 +75,7 @@ leaf_at l b m name a kind.ByteArray = bytearray_at l b m a
 leaf_at l b m name a kind.Class = class_at l m a
 leaf_at l b m name a _ = opaque_at m name a
 
+-- an object without parts
 unfoldable pub leaf_level_at : Layout → Limits → Memory → (name addr : ℕ) → Kind → Found Level
 leaf_level_at l b m name a k = do
   t ← leaf_at l b m name a k
@@ -110,6 +112,7 @@ kind_level_at l t b m nodes name a (kind.Coroutine form) = coroutine_level_at l 
 kind_level_at l t b m nodes name a kind.Other = other_level_at l b m t.instances nodes name a
 kind_level_at l t b m nodes name a k = leaf_level_at l b m name a k
 
+-- what is shown of an object that can't be read: the range that isn't there, or that it is damaged
 abbrev pub fault_tree : Kind → ℕ → Fault → Tree
 fault_tree k a (Missing at len) = Lost k at len
 fault_tree k a _ = Damaged k a
@@ -119,6 +122,7 @@ abbrev pub told : Kind → ℕ → Found Level → Level
 told k a (Ok level) = level
 told k a (Err f) = Whole (fault_tree k a f)
 
+-- an object and the places of its parts, where its type can be read
 abbrev pub level_by : Layout → ReprTypes → Limits → Memory → (nodes addr : ℕ) → Found ObjectType → Level
 level_by l t b m nodes a (Ok class) =
     told (kind_of l t class) a (kind_level_at l t b m nodes class.name a (kind_of l t class))
@@ -137,21 +141,24 @@ FitsIn nodes (Attributes class a names values share left_out) = (length names + 
 
 -- ---- as it is read
 
+-- one level of a value that was read
 abbrev pub level_of : LevelRead → Level
 level_of (WholeRead r) = Whole (tree_of r)
 level_of (RowRead form places share left_out) = Row form places.items share left_out
 level_of (EntriesRead keys values share left_out) = Entries keys.items values.items share left_out
 level_of (AttributesRead class a names values share left_out) = Attributes class a names.items values.items share left_out
 
+-- a result with one level of a value
 abbrev pub levels_found : {E : Type 0} → Result LevelRead E → Result Level E
 levels_found (Ok level) = Ok (level_of level)
 levels_found (Err e) = Err e
 
+-- a fault is told in place of the object; an error is out of memory
 abbrev pub ToldBy : Kind → ℕ → Option Fault → Result LevelRead ReprError → Type 0
 ToldBy k a None result = result ≡ Err OutOfMemory
 ToldBy k a (Some f) result = IfOk result (λ level. level_of level ≡ Whole (fault_tree k a f))
 
--- what is told of what was found; want of memory is handed on
+-- what is told of what was found; out of memory is handed on
 abbrev pub Tells : Kind → ℕ → Result LevelRead ObjectError → Result LevelRead ReprError → Type 0
 Tells k a (Ok level) result = result ≡ Ok level
 Tells k a (Err e) result = ToldBy k a (object_fault e) result

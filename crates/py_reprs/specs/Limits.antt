@@ -3,6 +3,7 @@
 use Rattle.std.specs.Prelude.{ℕ, ◌-◌, ◌*◌, ◌/◌, ◌==◌, nat_le, min, if◌then◌else◌}
 use Rattle.py_reprs.specs.declared.limits.Limits.{Limits}
 
+-- so many times the first limits: characters, items and nodes of a value, with a number of levels
 abbrev pub limits_by : (times levels : ℕ) → Limits
 limits_by times levels = record {
   characters = 1024 * times;

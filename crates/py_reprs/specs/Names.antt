@@ -9,6 +9,7 @@ use Rattle.py_fields.specs.declared.layout.Layout.{Layout}
 use Rattle.py_reprs.specs.Trees.{Tree}
 use Rattle.py_reprs.specs.Trees.Tree.{Class, Opaque}
 
+-- the characters of bytes, where they are UTF-8
 abbrev pub text_if : Option (List ℕ) → Option (List ℕ)
 text_if None = None
 text_if (Some bytes) = if is_utf8 bytes then Some (chars bytes) else None
@@ -17,6 +18,7 @@ text_if (Some bytes) = if is_utf8 bytes then Some (chars bytes) else None
 abbrev pub name_in : List ℕ → Option (List ℕ)
 name_in bytes = text_if (until_nul bytes)
 
+-- the name that bytes are, where they can be read
 abbrev pub name_by : Found (List ℕ) → Option (List ℕ)
 name_by (Ok bytes) = name_in bytes
 name_by (Err f) = None

@@ -15,6 +15,7 @@ use Rattle.py_reprs.specs.Kinds.{is_python_2}
 use Rattle.py_reprs.specs.Trees.{Tree}
 use Rattle.py_reprs.specs.Trees.Tree.{Integer, SmallInteger, HugeInteger, Truth, Float, Complex}
 
+-- how integers of any size are written: Python 2 has an `L` behind them
 abbrev pub integer_form : Layout → IntegerForm
 integer_form l = if is_python_2 l then Long else Int
 
@@ -30,6 +31,7 @@ highest_at l m a d = do
   bytes ← record_at m (a + l.long.digits + 4 * (d.count - 1)) 4
   Ok (HugeInteger (integer_form l) d.negative d.count (u32_in bytes 0))
 
+-- an integer by its digits: its number up to 110 digits of 30 bits, else how many bits it has
 unfoldable pub integer_by : Layout → Memory → ℕ → Digits → Found Tree
 integer_by l m a d = if nat_le d.count 110 then digits_at l m a d else highest_at l m a d
 
@@ -54,6 +56,7 @@ truth_by false l m a = do
   z ← long_at l m a
   Ok (Truth (int_lt (pos 0) z.0))
 
+-- the 64 bits of a float (IEEE 754 binary64)
 unfoldable pub float_at : Layout → Memory → ℕ → Found Tree
 float_at l m a = do
   bits ← word_at m (a + l.float.value)

@@ -11,6 +11,7 @@ abbrev pub gap_of : Fault → Place
 gap_of (Missing a n) = Gap a n
 gap_of _ = Gap 0 0
 
+-- a place by the address that stands there, or a gap where it can't be read
 abbrev pub place_by : Found ℕ → Place
 place_by (Ok a) = At a
 place_by (Err f) = gap_of f

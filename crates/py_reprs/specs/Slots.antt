@@ -25,6 +25,7 @@ use Rattle.py_reprs.specs.Limits.{share, shown_count, shown_entries}
 use Rattle.py_reprs.specs.Places.{gap_of}
 use Rattle.py_reprs.specs.Texts.{head_of}
 
+-- a list of one, or of none
 abbrev pub one_of : {T : Type 0} → Option T → List T
 one_of None = []
 one_of (Some x) = x ∷ []
@@ -42,12 +43,15 @@ first_held slot most looked = take most (held slot looked)
 abbrev pub with_slot : {T : Type 0} → ℕ → List T → Option T → List T
 with_slot most found slot = if nat_lt (length found) most then found ++ one_of slot else found
 
+-- an entry of a dict: where its key and its value stand
 abbrev pub entry : (key value : Place) → EntryPlace
 entry key value = record { key = key; value = value }
 
+-- an entry of a dict; none where the value's address is 0
 abbrev pub entry_of : (key value : ℕ) → Option EntryPlace
 entry_of key value = if value == 0 then None else Some (entry (At key) (At value))
 
+-- the entry of a slot that was read; a gap where it can't be read
 abbrev pub entry_by : Found Slot → Option EntryPlace
 entry_by (Ok Empty) = None
 entry_by (Ok (Entry key value)) = entry_of key value
@@ -61,6 +65,7 @@ entry_at m slots number = entry_by (slot_at m slots number)
 abbrev pub looked_at : Limits → ℕ → ℕ
 looked_at b count = min count (4 * b.items)
 
+-- the first entries of a dict, and how many are left out
 abbrev pub entries_in : (nodes used shown : ℕ) → List EntryPlace → Level
 entries_in nodes used shown found =
     Entries (map (λ e. e.key) found) (map (λ e. e.value) found) (share nodes (2 * shown)) (used - length found)
@@ -78,6 +83,7 @@ values_by (Some d) m a = do
   values ← word_at m (a + d.values)
   Ok values
 
+-- where the values of a dict with shared keys stand (`ma_values` of `PyDictObject`)
 unfoldable pub values_place : Layout → Memory → ℕ → Found ℕ
 values_place l m a = values_by l.dict m a
 
@@ -94,9 +100,11 @@ dict_level_at l b m nodes a = do
   slots ← dict_slots l m a
   Ok (entries_level_at b m (nodes_within nodes values) used slots)
 
+-- a member of a set; none of a slot that is empty or was deleted (a hash of -1, Objects/setobject.c)
 abbrev pub member_of : (key hash : ℕ) → Option Place
 member_of key hash = if key == 0 then None else if hash == 2 ^ 64 - 1 then None else Some (At key)
 
+-- the member of a slot that was read; a gap where it can't be read
 abbrev pub member_by : Found (List ℕ) → Option Place
 member_by (Ok slot) = member_of (u64_in slot 0) (u64_in slot 8)
 member_by (Err f) = Some (gap_of f)
@@ -105,6 +113,7 @@ member_by (Err f) = Some (gap_of f)
 unfoldable pub member_at : Memory → (table number : ℕ) → Option Place
 member_at m table number = member_by (record_at m (table + 16 * number) 16)
 
+-- the first members of a set, and how many are left out
 abbrev pub members_in : ItemsForm → (nodes used shown : ℕ) → List Place → Level
 members_in form nodes used shown found = Row form found (share nodes shown) (used - length found)
 
@@ -122,6 +131,7 @@ set_level_at l b m form nodes a = do
 
 -- ---- as it is read
 
+-- a gap is told for a fault; an error is out of memory
 abbrev pub LostBy : Option Fault → Result (Option EntryPlace) ReprError → Type 0
 LostBy None result = result ≡ Err OutOfMemory
 LostBy (Some f) result = result ≡ Ok (Some (entry (gap_of f) (gap_of f)))

@@ -35,6 +35,7 @@ text_front_at b m n c = do
   bytes ← front_at m c.at (min n b.characters * width c.kind)
   Ok (Text text_form.Str (points_of c.kind bytes) n)
 
+-- the front of a text, where the coding of its characters is known
 abbrev pub text_with : Limits → Memory → ℕ → Option Characters → Found Tree
 text_with b m n None = Err NoText
 text_with b m n (Some c) = text_front_at b m n c
@@ -52,6 +53,7 @@ bytes_front_at b form m n at = do
   bytes ← front_at m at (min n b.characters)
   Ok (Bytes form bytes n)
 
+-- how bytes are written: `str` of Python 2 has no `b` before it
 abbrev pub bytes_form_of : Layout → BytesForm
 bytes_form_of l = if is_python_2 l then bytes_form.Str else bytes_form.Bytes
 

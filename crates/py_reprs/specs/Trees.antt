@@ -42,6 +42,7 @@ mutual
     no_trees : Trees
     tree : Tree → Trees → Trees
 
+-- trees in a list of their own
 abbrev pub trees_of : List Tree → Trees
 trees_of [] = no_trees
 trees_of (t ∷ ts) = tree t (trees_of ts)

@@ -18,6 +18,7 @@ abbrev pub placed : (ℕ → ℕ → Tree) → ℕ → Place → Tree
 placed value share (At a) = value share a
 placed value share (Gap a n) = Lost kind.Other a n
 
+-- the values at some places, each with its share of the nodes
 abbrev pub all_placed : (ℕ → ℕ → Tree) → ℕ → List Place → Trees
 all_placed value share places = trees_of (map (placed value share) places)
 

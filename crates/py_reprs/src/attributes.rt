@@ -84,7 +84,7 @@ fn find_attributes<P: ProcessMemory>(
     })
 }
 
-/// Nothing was found; want of memory is handed on.
+/// Nothing was found; out of memory is handed on.
 fn lost(error: ObjectError) -> Result<Option<InstanceAttributes>, ReprError>
     ensures { IsLost (object_fault error) result }
 {

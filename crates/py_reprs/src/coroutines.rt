@@ -64,7 +64,7 @@ fn state_of(standing: Standing) -> CoroutineState
     }
 }
 
-/// What was read, or none where it can't be; want of memory is handed on.
+/// What was read, or none where it can't be; out of memory is handed on.
 fn or_none<T: Drop>(found: Result<T, ObjectError>) -> Result<Option<T>, ObjectError>
     ensures { IsOrNone found result }
 {

@@ -711,7 +711,7 @@ fn read_kind<P: ProcessMemory>(
     }
 }
 
-/// What is told of what was found: what is missing, or that a record can't be, is a part of the answer; want of memory is
+/// What is told of what was found: what is missing, or that a record can't be, is a part of the answer; out of memory is
 /// handed on.
 fn tell(kind: Kind, addr: u64, found: Result<Level, ObjectError>) -> Result<Level, ReprError>
     ensures { Tells kind addr found result }

@@ -46,7 +46,7 @@ pub(crate) fn looked_at(limits: &Limits, count: u128) -> u64
     }
 }
 
-/// An entry that could not be read; want of memory is handed on.
+/// An entry that could not be read; out of memory is handed on.
 fn lost_entry(error: ObjectError) -> Result<Option<EntryPlace>, ReprError>
     ensures { LostBy (object_fault error) result }
 {

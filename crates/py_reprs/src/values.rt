@@ -28,7 +28,7 @@ use std::alloc::Global;
 /// shown but how many items it has. So a list of itself ends.
 ///
 /// What is not in memory is `Lost`, and a record that can't be is `Damaged`: each costs the value that it breaks. An
-/// address of 0 is `Absent`. The one error is want of memory, and memory is taken for what is shown alone, whatever length
+/// address of 0 is `Absent`. The one error is out of memory, and memory is taken for what is shown alone, whatever length
 /// a record states.
 ///
 /// At most 1 more than the nodes times one read for each 1,024 characters, 8 for each item and 16 more; each of fewer than

@@ -29,6 +29,7 @@ abbrev pub onto : Span → List Span → List Span
 onto first [] = first ∷ []
 onto first (r ∷ rs) = joined first r ∷ rs
 
+-- the runs with one more member in front, which is a run of its own where one ends there
 abbrev pub in_front : (is_last : Bool) → Span → List Span → List Span
 in_front true x rs = x ∷ rs
 in_front false x rs = onto x rs
@@ -49,14 +50,17 @@ abbrev pub opened : Option Span → Span → Span
 opened None own = own
 opened (Some first) own = joined first own
 
+-- a run in a list, where it is whole; else nothing
 abbrev pub pushed_if : Span → List Span
 pushed_if r = if r.is_whole then r ∷ [] else []
 
+-- a run that isn't whole, and so is still open
 abbrev pub open_if : Span → Option Span
 open_if r = if r.is_whole then None else Some r
 
 -- ---- borders
 
+-- a run whose border is not known
 abbrev pub plain_run : Span → Run
 plain_run r = record { frames = r.frames; border = None }
 
@@ -69,6 +73,7 @@ abbrev pub taken : CFrame → List Span → List Run
 taken c [] = []
 taken c (r ∷ rs) = if nat_eq c.current r.begins then record { frames = r.frames; border = Some c.address } ∷ [] else []
 
+-- the runs that are left behind a C frame: all but the first, where its current frame begins that
 abbrev pub left_by : CFrame → List Span → List Span
 left_by c [] = []
 left_by c (r ∷ rs) = if nat_eq c.current r.begins then rs else r ∷ rs

@@ -10,6 +10,7 @@ use Rattle.py_runs.specs.declared.member.Met.{Met}
 use Rattle.py_runs.specs.declared.run_rule.RunEnd.{RunEnd}
 use Rattle.py_runs.specs.declared.run_rule.RunEnd.TheVariants.{Each, Entry, Shim}
 
+-- the first byte of some, where there is one
 abbrev pub first_of : Option (List ℕ) → Option ℕ
 first_of (Some (byte ∷ bytes)) = Some byte
 first_of other = None
@@ -18,15 +19,18 @@ first_of other = None
 abbrev pub byte_known : Memory → ℕ → Option ℕ
 byte_known m a = first_of (result_ok (record_at m a 1))
 
+-- the word of 8 bytes at an address, where it is in memory
 abbrev pub word_known : Memory → ℕ → Option ℕ
 word_known m a = result_ok (word_at m a)
 
 -- ---- where a run ends
 
+-- whether a byte is there and is not this one
 abbrev pub is_some_other : ℕ → Option ℕ → Bool
 is_some_other n (Some byte) = not (nat_eq byte n)
 is_some_other n None = false
 
+-- whether a byte is there and is this one
 abbrev pub is_this : ℕ → Option ℕ → Bool
 is_this n (Some byte) = nat_eq byte n
 is_this n None = false
@@ -39,6 +43,7 @@ closes_at (Shim place owner) m a = is_this owner (byte_known m (a + place))
 
 -- ---- members
 
+-- the member at an address, and whether a run ends at it
 abbrev pub member_at : RunEnd → Memory → ℕ → Member
 member_at e m a = record { address = a; is_last = closes_at e m a }
 
@@ -67,9 +72,11 @@ abbrev pub c_frame_by : (at : ℕ) → Option ℕ → Option ℕ → Option (CFr
 c_frame_by at (Some current) (Some previous) = Some (record { address = at; current = current }, previous)
 c_frame_by at _ _ = None
 
+-- the C frame at an address, and the address of the one before it (`_PyCFrame` of 3.11)
 abbrev pub c_frame_at : (current previous : ℕ) → Memory → ℕ → Option (CFrame × ℕ)
 c_frame_at current previous m at = c_frame_by at (word_known m (at + current)) (word_known m (at + previous))
 
+-- a C frame and those behind it, where it was read
 abbrev pub c_frames_behind : Option (CFrame × ℕ) → (ℕ → List CFrame) → List CFrame
 c_frames_behind (Some (c, previous)) behind = c ∷ behind previous
 c_frames_behind None behind = []
@@ -87,6 +94,7 @@ c_frames_from current previous m (suc count) (suc a) =
 abbrev pub named_by : Layout → Memory → (thread : ℕ) → Option ℕ
 named_by l m thread = word_known m (thread + l.thread.frame)
 
+-- the newest frame, by what a thread names: that frame, or the C frame that names it
 abbrev pub current_of : Memory → Option CframeAt → ℕ → Option ℕ
 current_of m None named = Some named
 current_of m (Some c) named = word_known m (named + c.current)

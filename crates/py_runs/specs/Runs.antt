@@ -9,6 +9,7 @@ use Rattle.py_runs.specs.declared.cut.Span.{Span}
 use Rattle.py_runs.specs.declared.run_rule.RunEnd.{RunEnd}
 use Rattle.py_runs.specs.declared.run_rule.RunEnd.TheVariants.{Each, Entry, Shim}
 
+-- whether a run ends at a frame that is no Python function's: from 3.12 on
 abbrev pub has_shims : RunEnd → Bool
 has_shims Each = false
 has_shims (Entry place current previous) = false
@@ -22,10 +23,12 @@ bordered (Entry place current previous) m count named rs =
     c_runs (c_frames_from current previous m (count + 16) named) rs
 bordered (Shim place owner) m count named rs = map shim_run rs
 
+-- a thread's members in runs, from its newest frame on; none where that is not known
 abbrev pub spans_by : Layout → RunEnd → Memory → (count : ℕ) → Option ℕ → List Span
 spans_by l e m count (Some first) = spans_of (has_shims e) (members_from l e m count first)
 spans_by l e m count None = []
 
+-- the runs of a thread by what it names; none where that is not in memory
 abbrev pub runs_by : Layout → RunEnd → Memory → (count : ℕ) → Option ℕ → List Run
 runs_by l e m count (Some named) =
     bordered e m count named (spans_by l e m count (current_of m l.cframe named))

@@ -111,7 +111,7 @@ fn runs_by<P: ProcessMemory>(
 /// Python frames each has, and the address of its border, where it has one. Frames that stand for no Python function,
 /// at which runs end from 3.12 on, don't count among the frames of a run.
 ///
-/// The runs end early where a member can't be read. The one error is want of memory. At most four reads for each frame
+/// The runs end early where a member can't be read. The one error is out of memory. At most four reads for each frame
 /// that is asked for, and 34 more: in 3.11 at most 16 C frames more than frames are met.
 pub fn read_runs<P: ProcessMemory>(
     alloc: Global,

@@ -41,6 +41,7 @@ pub record KeyShown : Type 0 where
 abbrev pub key_shown : KeyTold → KeyShown
 key_shown k = record { name = key_name k.key; layout = k.layout; process = k.process; needed = k.needed }
 
+-- a row's number of a layout, beside what the process says of it, and whether it is needed at this version
 abbrev pub key_told : Layout → Release → Row → Option ℕ → KeyShown
 key_told l release row process = record {
   name = key_name row.key;
@@ -57,10 +58,12 @@ keys_from m l t (row ∷ rows) = do
   rest ← keys_from m l t rows
   Ok (key_told l t.release row process ∷ rest)
 
+-- a reader's result with its numbers as they are shown
 abbrev pub keys_result : Result (Vec KeyTold Global) ReadFault → Result (List KeyShown) ReadFault
 keys_result (Ok keys) = Ok (map key_shown keys.items)
 keys_result (Err error) = Err error
 
+-- whether both numbers are there, and differ
 abbrev pub are_other : Option ℕ → Option ℕ → Bool
 are_other None process = false
 are_other (Some layout) None = false
@@ -85,6 +88,7 @@ verdict_of doubted frames known keys =
     else (if has_no_right_frame frames known then Doubtful
     else (if list_any lacks keys then unconfirmed doubted else Agrees))
 
+-- what tells numbers before the table is read: these types, and where a type names its own type
 abbrev pub untried : Types → Release → Option ℕ → Telling
 untried types release own = record { types = types; own = own; table = None; release = release }
 
@@ -102,6 +106,7 @@ trust_of types runtime release own size table = record {
   doubted = is_doubted own size;
 }
 
+-- what tells the numbers of a process, by its types and by the table at the runtime's address
 unfoldable pub trust_at : Memory → Types → Option ℕ → Release → Found Trust
 trust_at m types runtime release = do
   own ← kept (own_place_at m types.metatype)
@@ -118,6 +123,7 @@ pub record CheckShown : Type 0 where
   pub known : List Answer
   pub keys : List KeyShown
 
+-- a check of a layout, as the code has it
 abbrev pub check_shown : LayoutCheck → CheckShown
 check_shown c = record {
   verdict = c.verdict;
@@ -128,10 +134,12 @@ check_shown c = record {
   keys = map key_shown c.keys.items;
 }
 
+-- a reader's result with the check of a layout
 abbrev pub check_result : Result LayoutCheck ReadFault → Result CheckShown ReadFault
 check_result (Ok check) = Ok (check_shown check)
 check_result (Err error) = Err error
 
+-- the check of a layout, by what was met in the process and the numbers that it tells
 abbrev pub check_of : Trust → ℕ → List Answer → List KeyShown → CheckShown
 check_of trust frames known keys = record {
   verdict = verdict_of trust.doubted frames known keys;
@@ -153,6 +161,7 @@ described_at m l types runtime release pointers threads = do
   keys ← keys_from m l trust.telling the_rows
   Ok (check_of trust met.frames (add_contents met.answers contents) keys)
 
+-- the check of a version of which it is not known what its types tell: only the table's version is said
 abbrev pub undescribed : Option Table → CheckShown
 undescribed table = record {
   verdict = NotDescribed;
@@ -163,11 +172,13 @@ undescribed table = record {
   keys = [];
 }
 
+-- the same, by the table at the runtime's address
 unfoldable pub undescribed_at : Memory → Option ℕ → Release → Found CheckShown
 undescribed_at m runtime release = do
   table ← kept (table_at m release runtime)
   Ok (undescribed table)
 
+-- the check of a layout, whether it is known what the version's types tell or not
 abbrev pub check_if : Memory → Layout → Types → Option ℕ → Release → List ℕ → List ThreadPlace → Bool
     → Found CheckShown
 check_if m l types runtime release pointers threads true = described_at m l types runtime release pointers threads
@@ -185,6 +196,7 @@ pub record Agree (k : KeyShown) : Type 0 where
   pub same : (layout process : ℕ) → k.layout ≡ Some layout → k.process ≡ Some process → layout ≡ process
   pub told : k.needed ≡ true → (n : ℕ) × (k.layout ≡ Some n) × (k.process ≡ Some n)
 
+-- each number agrees
 abbrev pub AllAgree : List KeyShown → Type 0
 AllAgree keys = AllByRecursion Agree keys
 
@@ -196,6 +208,7 @@ pub record Differ (k : KeyShown) : Type 0 where
   pub tells : k.process ≡ Some process
   pub other : layout ≢ process
 
+-- there is a number that the process says otherwise
 unfoldable pub OneDiffers : List KeyShown → Type 0
 OneDiffers [] = ⊥
 OneDiffers (k ∷ ks) = Differ k ⊎ OneDiffers ks

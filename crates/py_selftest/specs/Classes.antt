@@ -10,6 +10,7 @@ use Rattle.py_selftest.specs.declared.telling.Types.{Types}
 use Rattle.py_selftest.specs.Members.{is_called_at}
 use Rattle.py_selftest.specs.Telling.{is_before, kept}
 
+-- the address of a class, where it is the one that is looked for; else none
 abbrev pub class_if : ℕ → Bool → Option ℕ
 class_if class is = if is then Some class else None
 
@@ -32,6 +33,7 @@ abbrev pub class_else : Layout → Memory → Option ℕ → ℕ → List ℕ �
 class_else l m (Some class) object name = Ok (Some class)
 class_else l m None object name = kept (class_named l m object name)
 
+-- a type that is known, else the class of the object that a word of a record names, if it has this name
 abbrev pub member_else : Layout → Memory → Option ℕ → ℕ → ℕ → List ℕ → Found (Option ℕ)
 member_else l m (Some class) holder field name = Ok (Some class)
 member_else l m None holder field name = kept (member_named l m holder field name)

@@ -38,6 +38,7 @@ module_entry l m module_at name = do
   dict ← word_at m (beside module_at t.dict_offset)
   dict_entry l m dict name
 
+-- what a module has under a name, where there is such a module
 abbrev pub entry_if : Layout → Memory → Option ℕ → List ℕ → Found (Option ℕ)
 entry_if l m None name = Ok None
 entry_if l m (Some module_at) name = module_entry l m module_at name
@@ -64,6 +65,7 @@ number_told l m object n = do
   told ← long_at l m object
   Ok (Some (is_number told n))
 
+-- whether the object is 1114111, where there is one (`sys.maxunicode`)
 abbrev pub largest_if : Layout → Memory → Option ℕ → Found (Option Bool)
 largest_if l m None = Ok None
 largest_if l m (Some object) = number_told l m object 1114111
@@ -81,6 +83,7 @@ float_at l m object = do
   value ← word_at m (first + l.float.value)
   Ok (Some (value == 9218868437227405311))
 
+-- whether the tuple's first item is the largest finite number, where there is a tuple (`sys.float_info`)
 abbrev pub float_if : Layout → Memory → Option ℕ → Found (Option Bool)
 float_if l m None = Ok None
 float_if l m (Some object) = float_at l m object
@@ -91,6 +94,7 @@ float_told l m interpreter = do
   object ← content_at l m interpreter (codes "sys") (codes "float_info")
   float_if l m object
 
+-- whether the class has the name that was looked for, and the number is 1
 abbrev pub both_told : Option ℕ → ℤ × Bool → Bool
 both_told class told = is_some class && is_number told 1
 
@@ -101,6 +105,7 @@ truth_at l m object = do
   told ← long_at l m object
   Ok (Some (both_told class told))
 
+-- whether the object is of `bool` and 1, where there is one
 abbrev pub truth_if : Layout → Memory → Option ℕ → Found (Option Bool)
 truth_if l m None = Ok None
 truth_if l m (Some object) = truth_at l m object
@@ -111,11 +116,12 @@ truth_told l m interpreter = do
   object ← content_at l m interpreter (codes "builtins") (codes "True")
   truth_if l m object
 
--- a reader's result: what is told, none where it can't be read, and want of memory, which names no fault
+-- a reader's result: what is told, none where it can't be read, and out of memory, which names no fault
 abbrev pub by_fault : Option Fault → Result (Option Bool) ReadFault
 by_fault None = Err OutOfMemory
 by_fault (Some fault) = Ok None
 
+-- a reader's result with what is told: none where something can't be read, and out of memory stays
 abbrev pub told_result : Result (Option Bool) NamesError → Result (Option Bool) ReadFault
 told_result (Ok told) = Ok told
 told_result (Err error) = by_fault (names_fault error)
@@ -128,6 +134,7 @@ contents_at l m interpreter = do
   truth ← kept (truth_told l m interpreter)
   Ok (record { largest = largest; float = float; truth = truth })
 
+-- no answer of an interpreter
 abbrev pub contents_none : ContentsTold
 contents_none = record { largest = None; float = None; truth = None }
 
@@ -136,6 +143,7 @@ abbrev pub first_interpreter : List ThreadPlace → Option ℕ
 first_interpreter [] = None
 first_interpreter (thread ∷ threads) = Some thread.interpreter
 
+-- the answers of an interpreter, where there is one
 abbrev pub contents_if : Layout → Memory → Option ℕ → Found ContentsTold
 contents_if l m None = Ok contents_none
 contents_if l m (Some interpreter) = contents_at l m interpreter

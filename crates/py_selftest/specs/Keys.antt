@@ -32,6 +32,7 @@ use Rattle.py_selftest.specs.declared.keys.FreeKey.TheVariants.{GilLocked, GilHo
 use Rattle.py_selftest.specs.declared.keys.Key.{Key}
 use Rattle.py_selftest.specs.declared.keys.Key.TheVariants.{Record, Object, Free}
 
+-- a layout's number of the interpreter, of threads, frames or code; none where it has none
 abbrev pub record_number : Layout → RecordKey → Option ℕ
 record_number l InterpreterThreads = Some l.interpreter.threads
 record_number l InterpreterModules = Some l.interpreter.modules
@@ -56,6 +57,7 @@ record_number l CodeTable = Some l.code.table
 record_number l CodeVarnames = Some l.code.varnames
 record_number l CodeStart = l.code.start
 
+-- a layout's number of a built-in object or a type; none where it has none
 abbrev pub object_number : Layout → ObjectKey → Option ℕ
 object_number l StringLength = Some l.string.length
 object_number l StringState = l.string.state
@@ -80,6 +82,7 @@ object_number l LongDigits = Some l.long.digits
 object_number l SmallValue = Some l.small.value
 object_number l FloatValue = Some l.float.value
 
+-- a layout's number of a record that not every version has; none where the layout lacks it
 abbrev pub free_number : Layout → FreeKey → Option ℕ
 free_number l CframeCurrent = option_map (λ (at : CframeAt). at.current) l.cframe
 free_number l DictKeys = option_map (λ (at : DictAt). at.keys) l.dict
@@ -100,6 +103,7 @@ number_in l (Record key) = record_number l key
 number_in l (Object key) = object_number l key
 number_in l (Free key) = free_number l key
 
+-- the name in a layout file of a number of the interpreter, of threads, frames or code
 abbrev pub record_name : RecordKey → List ℕ
 record_name InterpreterThreads = codes "interpreter.threads"
 record_name InterpreterModules = codes "interpreter.modules"
@@ -124,6 +128,7 @@ record_name CodeTable = codes "code.table"
 record_name CodeVarnames = codes "code.varnames"
 record_name CodeStart = codes "code.start"
 
+-- the name in a layout file of a number of a built-in object or a type
 abbrev pub object_name : ObjectKey → List ℕ
 object_name StringLength = codes "string.length"
 object_name StringState = codes "string.state"
@@ -148,6 +153,7 @@ object_name LongDigits = codes "long.digits"
 object_name SmallValue = codes "small.value"
 object_name FloatValue = codes "float.value"
 
+-- the name in a layout file of a number of a record that not every version has
 abbrev pub free_name : FreeKey → List ℕ
 free_name CframeCurrent = codes "cframe.current"
 free_name DictKeys = codes "dict.keys"

@@ -1,9 +1,7 @@
 -- The members of a type, as its own table names them. An entry of 40 bytes has the address of its name, a code that
--- says
--- of which kind it is, in 4 bytes at 8, and where it stands in an instance, at 16; a name of 0 ends the table. That is
+-- says of which kind it is, in 4 bytes at 8, and where it stands in an instance, at 16; a name of 0 ends the table. That is
 -- CPython's rule (`PyMemberDef`, Include/structmember.h), the same in 2.7 and in 3.6 to 3.13; so many entries are
--- looked
--- at by this project's.
+-- looked at by this project's.
 use Rattle.std.specs.Prelude.{ℕ, zero, suc, ◌+◌, ◌*◌, ◌%◌, ◌==◌, ◌||◌, Bool, true, false, if◌then◌else◌, List, length}
 use Rattle.std.specs.Prelude.{Option, Some, None, Ok, bytes_eq, nat_lt}
 use Rattle.elf64_core.specs.Nul.{until_nul}
@@ -12,6 +10,7 @@ use Rattle.py_selftest.specs.declared.members.Member.{Member}
 use Rattle.py_selftest.specs.declared.members.Step.{Step}
 use Rattle.py_selftest.specs.declared.members.Step.TheVariants.{End, Found, Other}
 
+-- whether a text is there and is this name
 abbrev pub is_text : List ℕ → Option (List ℕ) → Bool
 is_text name None = false
 is_text name (Some text) = bytes_eq text name
@@ -20,6 +19,7 @@ is_text name (Some text) = bytes_eq text name
 unfoldable pub is_named : List ℕ → List ℕ → Bool
 is_named chars name = is_text name (until_nul chars)
 
+-- whether the name stands at an address with a nul behind it; never where it is too long
 unfoldable pub is_called_if : Memory → List ℕ → ℕ → Bool → Read Bool
 is_called_if m name a true = Ok false
 is_called_if m name a false = do
@@ -42,6 +42,7 @@ is_wide code = code == 2 || code == 6 || code == 12 || code == 16 || code == 19
 abbrev pub width_by : ℕ → ℕ
 width_by code = if is_int code then 4 else if is_wide code then 8 else if code == 14 then 1 else 0
 
+-- how many bytes a member has, by the word at 8 of its entry, whose low 4 bytes are its code
 unfoldable pub width_of : ℕ → ℕ
 width_of word = width_by (word % 4294967296)
 
@@ -84,6 +85,7 @@ member_at m own of name = do
   table ← word_at m (of + (own + 232))
   member_from m name table 256 0
 
+-- where a member stands in an instance, if it has the right number of bytes
 abbrev pub offset_if : Member → Bool → Option ℕ
 offset_if member true = Some member.offset
 offset_if member false = None
@@ -93,6 +95,7 @@ abbrev pub place_of : Option Member → ℕ → Option ℕ
 place_of None width = None
 place_of (Some member) width = offset_if member (member.width == width)
 
+-- where the member of a name stands in an instance of a type, if it has so many bytes
 unfoldable pub member_place_at : Memory → ℕ → ℕ → List ℕ → ℕ → Read (Option ℕ)
 member_place_at m own of name width = do
   found ← member_at m own of name

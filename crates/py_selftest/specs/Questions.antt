@@ -45,12 +45,14 @@ text_told l m r holder field = do
 abbrev pub is_end : ℕ → Bool
 is_end word = nat_lt word 72057594037927936
 
+-- whether the last byte of the word at an offset of a bytes object is 0; none where there is no offset
 unfoldable pub last_told : Memory → ℕ → Option ℕ → Found (Option Bool)
 last_told m table None = Ok None
 last_told m table (Some offset) = do
   word ← word_at m (table + offset)
   Ok (Some (is_end word))
 
+-- whether a byte of 0 follows so many bytes; not where these are too many
 unfoldable pub end_if : Layout → Memory → ℕ → ℕ → Bool → Found (Option Bool)
 end_if l m table length true = Ok (Some false)
 end_if l m table length false = last_told m table (less (length + l.bytes.at) 7)
@@ -71,6 +73,7 @@ table_told l m code = do
 abbrev pub stands_in : ℕ → ℕ → ℕ → Bool
 stands_in code start at = nat_le (code + start) (at + 2) && nat_lt at (code + start + 16777216)
 
+-- whether a frame's instruction stands in its code; none where it is not known where code begins
 unfoldable pub instruction_told : Layout → Memory → Option ℕ → ℕ → ℕ → Found (Option Bool)
 instruction_told l m None frame code = Ok None
 instruction_told l m (Some start) frame code = do
@@ -89,6 +92,7 @@ object_told l m object = do
   flags ← word_at m (of_class + l.klass.flags)
   Ok (Some (has_types flags))
 
+-- whether the class of a variable's value is a type; none where there is no value
 abbrev pub value_told : Layout → Memory → ℕ → Bool → Found (Option Bool)
 value_told l m object true = object_told l m object
 value_told l m object false = Ok None
@@ -148,6 +152,7 @@ add_frame answers t = add (add (add (add (add (add (add (add (add answers
     question.Variables t.variables) question.Table t.table) question.End t.end)
     question.Instruction t.instruction) question.Local t.local
 
+-- whether a question is asked of a frame
 abbrev pub is_of_frame : Question → Bool
 is_of_frame question.Interpreter = false
 is_of_frame question.Pointer = false
@@ -165,11 +170,12 @@ is_of_frame question.End = true
 is_of_frame question.Instruction = true
 is_of_frame question.Local = true
 
--- those that are right, and those of a frame that are
+-- whether an answer is right, and of a frame where only those are counted
 abbrev pub is_counted : Counted → Answer → Bool
 is_counted Right a = a.right
 is_counted RightOfFrames a = a.right && is_of_frame a.question
 
+-- 1 for what holds, else 0
 abbrev pub one_if : Bool → ℕ
 one_if true = 1
 one_if false = 0

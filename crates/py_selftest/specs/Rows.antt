@@ -61,6 +61,7 @@ source_of code.LineTable = Source.LineTable
 source_of (code.BasicSize of less when) = Source.BasicSize of less when
 source_of code.OwnPlace = Source.OwnPlace
 
+-- a row, as the code has it
 abbrev pub row_of : CodeRow → Row
 row_of r = record {
   key = r.key;
@@ -79,6 +80,7 @@ row key width entry source needed = record {
   needed = needed;
 }
 
+-- each number that is looked at, with its word in the table of 3.13 and what of the types tells it
 unfoldable pub the_rows : List Row
 the_rows =
     row (Record InterpreterThreads) 8 (At 72) Source.Nothing Never

@@ -24,12 +24,14 @@ use Rattle.py_selftest.specs.Rows.Source.{Nothing, Member, LineTable, BasicSize,
 abbrev pub is_before : Release → ℕ → Bool
 is_before r minor = nat_lt r.major 3 || (r.major == 3 && nat_lt r.minor minor)
 
+-- whether something is said of a version
 abbrev pub applies : When → Release → Bool
 applies Never r = false
 applies Always r = true
 applies BeforeEleven r = is_before r 11
 applies FromEleven r = not (is_before r 11)
 
+-- the address of a built-in type, where it is known
 abbrev pub address_of : Types → BuiltIn → Option ℕ
 address_of t Metatype = t.metatype
 address_of t Code = t.code
@@ -38,6 +40,7 @@ address_of t Tuple = t.tuple
 address_of t Bytes = t.bytes
 address_of t Long = t.long
 
+-- a type with the place where it names its own type, where both are known
 abbrev pub both : Option ℕ → Option ℕ → Option Placed
 both None of = None
 both (Some own) None = None
@@ -60,12 +63,13 @@ abbrev pub kept : {T : Type 0} → Found (Option T) → Found (Option T)
 kept (Ok told) = Ok told
 kept (Err fault) = Ok None
 
--- the same of a reader's result, whose want of memory stays
+-- the same of a reader's result, whose out of memory stays
 abbrev pub kept_result : {T : Type 0} → Result (Option T) ReadFault → Result (Option T) ReadFault
 kept_result (Ok told) = Ok told
 kept_result (Err (Unreadable a n)) = Ok None
 kept_result (Err OutOfMemory) = Err OutOfMemory
 
+-- where the member of a name of a type stands, where the type tells and the member has so many bytes
 unfoldable pub member_placed : Memory → List ℕ → ℕ → Option Placed → Found (Option ℕ)
 member_placed m name width None = Ok None
 member_placed m name width (Some it) = member_place_at m it.own it.of name width
@@ -74,6 +78,7 @@ member_placed m name width (Some it) = member_place_at m it.own it.of name width
 abbrev pub member_told : Memory → Telling → BuiltIn → List ℕ → ℕ → Found (Option ℕ)
 member_told m t of name width = member_placed m name width (placed t of)
 
+-- how many bytes an instance of a type has, less so many, where the type tells (`tp_basicsize`)
 unfoldable pub size_placed : Memory → ℕ → Option Placed → Found (Option ℕ)
 size_placed m by None = Ok None
 size_placed m by (Some it) = do
@@ -84,6 +89,7 @@ size_placed m by (Some it) = do
 abbrev pub size_told : Memory → Telling → BuiltIn → ℕ → Found (Option ℕ)
 size_told m t of by = size_placed m by (placed t of)
 
+-- the same, where it is said of this version
 abbrev pub size_if : Memory → Telling → BuiltIn → ℕ → Bool → Found (Option ℕ)
 size_if m t of by true = size_told m t of by
 size_if m t of by false = Ok None
@@ -102,12 +108,14 @@ word_told m table at = do
   number ← word_at m (table + at)
   Ok (Some number)
 
+-- a word of the table less another one, where that is no larger
 unfoldable pub words_apart : Memory → ℕ → ℕ → ℕ → Found (Option ℕ)
 words_apart m table at from = do
   number ← word_at m (table + at)
   by ← word_at m (table + from)
   Ok (less number by)
 
+-- the number that an entry of the table tells; none where the table doesn't have it
 abbrev pub entry_in : Memory → ℕ → Entry → Found (Option ℕ)
 entry_in m table Absent = Ok None
 entry_in m table (At at) = word_told m table at
@@ -118,6 +126,7 @@ abbrev pub entry_told : Memory → Option ℕ → Entry → Found (Option ℕ)
 entry_told m None entry = Ok None
 entry_told m (Some table) entry = entry_in m table entry
 
+-- the number that the table told, else what the types tell
 unfoldable pub told_else : Memory → Telling → Row → Option ℕ → Found (Option ℕ)
 told_else m t row (Some number) = Ok (Some number)
 told_else m t row None = kept (source_told m t row.width row.source)

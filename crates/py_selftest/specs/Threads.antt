@@ -27,6 +27,7 @@ pointer_at l m pointers thread = do
   id ← word_at m (thread + l.thread.id)
   Ok (Some (is_among pointers id))
 
+-- whether a thread's id is one of the thread pointers; none where no thread pointer is known
 abbrev pub pointer_if : Layout → Memory → List ℕ → ℕ → Bool → Found (Option Bool)
 pointer_if l m pointers thread true = pointer_at l m pointers thread
 pointer_if l m pointers thread false = Ok None
@@ -46,6 +47,7 @@ class_has_dicts l m object = do
   flags ← word_at m (class + l.klass.flags)
   Ok (Some (has_dicts flags))
 
+-- whether an object is a dict, by its class; null is none
 abbrev pub dict_if : Layout → Memory → ℕ → Bool → Found (Option Bool)
 dict_if l m object true = Ok (Some false)
 dict_if l m object false = class_has_dicts l m object

@@ -1,7 +1,6 @@
 -- What of a process may tell numbers. That `type` is its own type, and that a build with other object headers has two
 -- words more before a type's name of its own, is CPython's rule (`PyObject`, `Py_TRACE_REFS`, `Py_GIL_DISABLED`); so
--- are
--- the cookie, the version and the lock's word of the table (`_Py_DebugOffsets`). That the types tell only where `type`
+-- are the cookie, the version and the lock's word of the table (`_Py_DebugOffsets`). That the types tell only where `type`
 -- confirms one of these places by its own members, and the table only by the form of 3.13, is this project's.
 use Rattle.std.specs.Prelude.{ℕ, ◌+◌, ◌/◌, ◌%◌, ◌==◌, ◌&&◌, not, Bool, false, if◌then◌else◌, is_some, nat_le}
 use Rattle.std.specs.Prelude.{Option, Some, None, Ok}
@@ -18,6 +17,7 @@ unfoldable pub is_described : Release → Bool
 is_described r = if r.major == 2 then r.minor == 7
     else r.major == 3 && nat_le 6 r.minor && nat_le r.minor 13
 
+-- where a type names its own type, in bytes: 8 or, with longer object headers, 24; none where neither is `type`
 abbrev pub own_from : ℕ → ℕ → ℕ → Option ℕ
 own_from metatype usual wide =
     if usual == metatype then Some 8 else (if wide == metatype then Some 24 else None)
@@ -40,6 +40,7 @@ is_confirmed (Some own) (Some size) = size == own + 24
 abbrev pub is_doubted : Option ℕ → Option ℕ → Bool
 is_doubted own size = is_some size && not (is_confirmed own size)
 
+-- no type is known
 abbrev pub no_types : Types
 no_types = record {
   metatype = None;
@@ -64,6 +65,7 @@ abbrev pub table_by : Release → ℕ → ℕ → ℕ → Option Table
 table_by r cookie version free = if cookie == 0x7970677562656478
     then Some (record { is_known = has_form r version; version = version; free_threaded = free == 1 }) else None
 
+-- the table at the runtime's address, if there is one (`_Py_DebugOffsets`)
 unfoldable pub table_at : Memory → Release → Option ℕ → Found (Option Table)
 table_at m r None = Ok None
 table_at m r (Some runtime) = do
@@ -86,14 +88,17 @@ abbrev pub other_of : Option Table → Option Release
 other_of None = None
 other_of (Some table) = if table.is_known then None else Some (release_by table.version)
 
+-- whether a table says that there is no lock, as in a free-threaded build
 abbrev pub is_free : Option Table → Bool
 is_free None = false
 is_free (Some table) = table.free_threaded
 
+-- whether objects have two words more in their headers
 abbrev pub is_wide : Option ℕ → Bool
 is_wide None = false
 is_wide (Some own) = own == 24
 
+-- the build whose objects have two words more: with trace refs before 3.13, free-threaded from then on
 abbrev pub wide_build : Release → Build
 wide_build r = if is_before r 13 then TraceRefs else FreeThreaded
 

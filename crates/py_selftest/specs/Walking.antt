@@ -39,6 +39,7 @@ met_shown met = record {
   answers = met.answers.items;
 }
 
+-- a reader's result with what was met
 abbrev pub met_result : Result Met ReadFault → Result MetShown ReadFault
 met_result (Ok met) = Ok (met_shown met)
 met_result (Err error) = Err error
@@ -48,12 +49,14 @@ abbrev pub current_at : Memory → Option CframeAt → ℕ → Found ℕ
 current_at m None top = Ok top
 current_at m (Some cframe) top = word_at m (top + cframe.current)
 
+-- the newest frame of a thread
 unfoldable pub newest_at : Layout → Memory → ℕ → Found (Option ℕ)
 newest_at l m thread = do
   top ← word_at m (thread + l.thread.frame)
   newest ← current_at m l.cframe top
   Ok (Some newest)
 
+-- what addresses without a tag of so many bits are multiples of; 8 for three bits and more
 abbrev pub tag_of : ℕ → ℕ
 tag_of bits = if bits == 0 then 1 else if bits == 1 then 2 else if bits == 2 then 4 else 8
 
@@ -65,12 +68,14 @@ untagged word bits = word / tag_of bits * tag_of bits
 abbrev pub code_if : ℕ → ℕ → Option ℕ
 code_if code file = if file == 0 then None else Some code
 
+-- the code of a frame, if it names a file
 unfoldable pub code_at : Layout → Memory → ℕ → Found (Option ℕ)
 code_at l m frame = do
   word ← word_at m (frame + l.frame.code)
   file ← word_at m (untagged word l.frame.code_tag_bits + l.code.filename)
   Ok (code_if (untagged word l.frame.code_tag_bits) file)
 
+-- the address, or 0 where there is none
 abbrev pub or_null : Option ℕ → ℕ
 or_null None = 0
 or_null (Some at) = at
@@ -95,6 +100,7 @@ passed_over met back = record {
   answers = met.answers;
 }
 
+-- what is met with a member of a chain, by its code; where it has none it is passed over
 unfoldable pub code_step : Layout → Memory → Release → MetShown → ℕ → Option ℕ → Found MetShown
 code_step l m r met back None = Ok (passed_over met back)
 code_step l m r met back (Some code) = do
@@ -110,10 +116,12 @@ frame_step l m r met = do
   code ← kept (code_at l m met.at)
   code_step l m r met (or_null back) code
 
+-- what is met with the next member of a chain; the same as before where the chain has ended
 unfoldable pub step_if : Layout → Memory → Release → MetShown → Bool → Found MetShown
 step_if l m r met true = Ok met
 step_if l m r met false = frame_step l m r met
 
+-- what is met with the next member of a chain, if it goes on
 abbrev pub step_at : Layout → Memory → Release → MetShown → Found MetShown
 step_at l m r met = step_if l m r met (met.at == 0)
 
@@ -139,11 +147,13 @@ thread_step l r pointers m thread met = do
   newest ← kept (newest_at l m thread.address)
   chain_from l r m 16 (at_thread met thread.interpreter told (or_null newest))
 
+-- what is met with some threads, one after another
 unfoldable pub threads_from : Layout → Release → List ℕ → Memory → List ThreadPlace → MetShown → Found MetShown
 threads_from l r pointers m [] met = Ok met
 threads_from l r pointers m (thread ∷ threads) met =
     thread_step l r pointers m thread met >>= threads_from l r pointers m threads
 
+-- the threads that are looked at: the first 64
 abbrev pub first_threads : List ThreadPlace → List ThreadPlace
 first_threads threads = take 64 threads
 

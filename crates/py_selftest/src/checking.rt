@@ -391,7 +391,7 @@ fn check_if<P: ProcessMemory>(
 /// and `Silent` where not. `NotDescribed` comes for other versions than 2.7 and 3.6 to 3.13, with no numbers. Known
 /// answers decide nothing else: a broken process fails some.
 ///
-/// What is not in memory tells nothing and answers nothing: that is no error. The one error is want of memory. At most
+/// What is not in memory tells nothing and answers nothing: that is no error. The one error is out of memory. At most
 /// 129679 reads.
 pub fn check_layout<P: ProcessMemory>(
     alloc: Global,

@@ -274,7 +274,7 @@ fn truth_told<P: ProcessMemory>(
     truth_if(alloc, process, layout, object)
 }
 
-/// What an object's error leaves: nothing told, or want of memory.
+/// What an object's error leaves: nothing told, or out of memory.
 fn object_result(error: ObjectError) -> Result<Option<bool>, ReadFault>
     ensures { result ≡ by_fault (object_fault error) }
 {
@@ -292,7 +292,7 @@ fn object_result(error: ObjectError) -> Result<Option<bool>, ReadFault>
     }
 }
 
-/// What is told, none where it can't be read, or want of memory.
+/// What is told, none where it can't be read, or out of memory.
 fn told_result(found: Result<Option<bool>, NamesError>) -> Result<Option<bool>, ReadFault>
     ensures { result ≡ told_result found }
 {

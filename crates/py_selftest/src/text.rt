@@ -196,7 +196,7 @@ fn push_verdict(
 /// Appends the lines that say what a process says of a layout, each with a line feed at its end: `Layout agrees: 31
 /// keys told, 12 not told`; a line `Layout differs: frame.locals is 360, the process says 352` for each number that
 /// does; `Layout not confirmed: ..`. In front stands the build, where it is none of the usual ones. The one error is
-/// want of memory.
+/// out of memory.
 pub fn push_check(text: &mut String, check: &LayoutCheck) -> Result<(), AllocError>
     ensures { OnOk result (string_bytes text.new ≡ string_bytes text.old ++ check_text (check_shown check.now)) }
 {

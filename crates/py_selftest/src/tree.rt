@@ -233,7 +233,7 @@ fn object_value(alloc: Global, check: &LayoutCheck) -> Result<Value, AllocError>
 /// known answers are `right`, and `of` how many; and `other_table`, null, or the `major` and `minor` number of the
 /// version that the process's own table of places says, where its form is not known, so that nothing is read by it.
 ///
-/// The keys of an object stand in the order of their bytes. The one error is want of memory.
+/// The keys of an object stand in the order of their bytes. The one error is out of memory.
 pub fn check_value(alloc: Global, check: &LayoutCheck) -> Result<Value, AllocError>
     ensures value { IfOk result (λ value. view value ≡ check_tree (check_shown check.now)) }
     ensures no_float { has_float (check_tree (check_shown check.now)) ≡ false }

@@ -49,7 +49,7 @@ module _ (c : Config) (l : Layout) (m : Memory) (lock interpreter : ℕ) where
   unfolding stacks_over_at named_stacks_at
   over_whole traces h = rw (stacks_whole (asked_of c) l m lock interpreter h.walked h.stacks) (ap Ok (sym h.tells))
 
-  -- what is right is the answer, want of memory aside
+  -- what is right is the answer, out of memory aside
   pub over_only : (r : Result (Vec StackTrace) StackError) → Answers stack_fault (stacks_over_at c l m lock interpreter) (traces_of_result r)
       → (traces : List Trace) → AreStacksOver c l m lock interpreter traces → Answers stack_fault (Ok traces) (traces_of_result r)
   over_only r a traces h = let is = over_whole traces h in rw is at a

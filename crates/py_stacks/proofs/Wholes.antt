@@ -115,7 +115,7 @@ trace_step : (q : Asked) (l : Layout) (m : Memory) (a : ℕ) (t : Trace) → IsT
 unfolding trace_at
 trace_step q l m a t h = let w = trace_whole q l m a t h in join (thread_step q l m tt a) _ (λ (x : Step (Unit {0}) Trace). Ok x.part) t w.step refl
 
--- what is right of one thread is the answer, want of memory aside
+-- what is right of one thread is the answer, out of memory aside
 pub trace_only : (q : Asked) (l : Layout) (m : Memory) (a : ℕ) (r : Result StackTrace StackError)
     → Answers stack_fault (trace_at q l m a) (trace_of_result r) → (t : Trace) → IsTraceOf q l m a t
     → Answers stack_fault (Ok t) (trace_of_result r)
@@ -163,7 +163,7 @@ stacks_whole q l m lock interpreter traces h =
     let inner = join (traces_at q l m interpreter) h.unmarked (λ ts. Ok (map (by_holder h.holder_id) ts)) traces (traces_whole q l m interpreter h.unmarked h.threads) (ap Ok (sym h.marks)) in
     join (holder_id_at l m lock) h.holder_id (λ holder_id. traces_at q l m interpreter >>= (λ ts. Ok (map (by_holder holder_id) ts))) traces h.held inner
 
--- what is right is the answer, want of memory aside
+-- what is right is the answer, out of memory aside
 pub stacks_only : (q : Asked) (l : Layout) (m : Memory) (lock interpreter : ℕ) (r : Result (Vec StackTrace) StackError)
     → Answers stack_fault (stacks_at q l m lock interpreter) (traces_of_result r) → (traces : List Trace)
     → AreStacks q l m lock interpreter traces → Answers stack_fault (Ok traces) (traces_of_result r)

@@ -18,6 +18,7 @@ default_config = record {
   lineno = LastInstruction;
 }
 
+-- what is asked for of each frame: which line, and whether its locals
 abbrev pub asks : LineNo → Bool → Asked
 asks lineno locals = record { lineno = lineno; locals = locals }
 

@@ -22,6 +22,7 @@ use Rattle.py_stacks.specs.Member.{MemberAt, readable}
 abbrev pub member_limit : ℕ
 member_limit = 16384
 
+-- how many members of a thread's chain are kept, at most
 abbrev pub frame_limit : ℕ
 frame_limit = 4096
 
@@ -34,6 +35,7 @@ abbrev pub entered_at : Option ℕ → List ℕ → Bool
 entered_at None frame = true
 entered_at (Some at) frame = not (nat_eq (u8_in frame at) 0)
 
+-- whether a C call entered the frame, by its record
 unfoldable pub is_entered : FrameAt → List ℕ → Bool
 is_entered f frame = entered_at f.entry frame
 
@@ -56,6 +58,7 @@ pub record Call : Type 0 where
   pub is_entry : Bool
   pub is_shim_entry : Bool
 
+-- what a frame says of its call, in plain terms
 abbrev pub call_of : Frame → Call
 call_of f = record {
   name = f.name;
@@ -68,6 +71,7 @@ call_of f = record {
   is_shim_entry = f.is_shim_entry;
 }
 
+-- a call by its file and function name, without a line, locals or a mark
 abbrev pub call_named : List ℕ → List ℕ → Bool → Call
 call_named file name entered = record {
   name = name;
@@ -110,6 +114,7 @@ plain_at l m r = do
   name ← name_at l m (u64_in r.code l.code.name)
   Ok (visible file name (is_entered l.frame r.frame))
 
+-- a call with its line and its locals
 abbrev pub with_detail : Call → Detail → Call
 with_detail c d = record c { line = d.line; locals = d.locals }
 
@@ -129,9 +134,11 @@ abbrev pub kept_next : ℕ → Option Call → ℕ
 kept_next kept None = kept
 kept_next kept (Some c) = kept + 1
 
+-- one step of the walk: the caller's address, how many are kept, and what the member shows as
 abbrev pub step_part : Layout → ℕ → MemberAt → Option Call → Step ℕ (Option Call)
 step_part l kept r p = record { next = back_by l r; state = kept_next kept p; part = p }
 
+-- one step of the walk, by a member's records, or the first fault
 abbrev pub step_by : Asked → Layout → Memory → ℕ → MemberAt → Found (Step ℕ (Option Call))
 step_by q l m kept r = plain_at l m r >>= (λ p. part_by q l m kept r p >>= (λ x. Ok (step_part l kept r x)))
 
@@ -145,6 +152,7 @@ begins_hidden last [] = last
 begins_hidden last (None ∷ ms) = true
 begins_hidden last (Some f ∷ ms) = false
 
+-- a call with this mark: whether its caller isn't shown
 abbrev pub with_mark : Call → Bool → Call
 with_mark f mark = record f { is_shim_entry = mark }
 
@@ -159,6 +167,7 @@ shown_by last (Some f ∷ ms) = with_mark f (begins_hidden last ms) ∷ shown_by
 abbrev pub shown : List (Option Call) → List Call
 shown ms = shown_by true ms
 
+-- what each member of a thread's chain shows as, to null, or the first fault
 unfoldable pub members_at : Asked → Layout → Memory → ℕ → Found (List (Option Call))
 members_at q l m first = walk_at ChainLimit (frame_step q l m) member_limit 0 first
 
@@ -168,6 +177,7 @@ frames_at q l m first = members_at q l m first >>= (λ ms. Ok (shown ms))
 
 -- ---- how many reads
 
+-- what is counted behind what was found; 0 where it was not
 abbrev pub cost_after : {T : Type 0} → Found T → (T → ℕ) → ℕ
 cost_after (Ok x) f = f x
 cost_after (Err e) f = 0
@@ -177,6 +187,7 @@ abbrev pub part_cost : Asked → Layout → Memory → ℕ → MemberAt → Opti
 part_cost q l m kept r None = 0
 part_cost q l m kept r (Some c) = if nat_lt kept frame_limit then detail_cost q l m r else 0
 
+-- the same by the address of the member
 unfoldable pub extra_cost : Asked → Layout → Memory → ℕ → ℕ → ℕ
 extra_cost q l m kept a = cost_after (records_at l m a) (λ r. part_cost q l m kept r (plain_by l m r))
 
@@ -184,6 +195,7 @@ extra_cost q l m kept a = cost_after (records_at l m a) (λ r. part_cost q l m k
 unfoldable pub member_cost : Asked → Layout → Memory → ℕ → ℕ → ℕ
 member_cost q l m kept a = 6 + extra_cost q l m kept a
 
+-- at most so many reads for the frames from the first one on: those of each member that is met
 unfoldable pub frames_cost : Asked → Layout → Memory → ℕ → ℕ
 frames_cost q l m first = walk_cost (frame_step q l m) (member_cost q l m) member_limit 0 first
 
@@ -231,13 +243,16 @@ frames_faults q l m first = walk_faults ChainLimit (frame_next l m) (frame_fault
 
 -- ---- results
 
+-- the call of a frame, where there is one
 abbrev pub call_of_option : Option Frame → Option Call
 call_of_option o = option_map call_of o
 
+-- a result with the calls of its frames
 abbrev pub calls_of_result : {E : Type 0} → Result (Vec Frame Global) E → Result (List Call) E
 calls_of_result (Ok v) = Ok (map call_of v.items)
 calls_of_result (Err e) = Err e
 
+-- a result with the call of its frame, where there is one
 abbrev pub part_of_result : {E : Type 0} → Result (Option Frame) E → Result (Option Call) E
 part_of_result (Ok o) = Ok (call_of_option o)
 part_of_result (Err e) = Err e

@@ -9,6 +9,7 @@ use Rattle.py_stacks.specs.declared.asked.Asked.{Asked}
 use Rattle.py_stacks.specs.declared.trace.Frame.{Frame}
 use Rattle.py_stacks.specs.Frames.{Call, call_of, frame_step, member_cost, member_limit, shown_by, with_mark}
 
+-- a frame with the mark that its caller isn't shown
 abbrev pub marked : Frame → Frame
 marked f = record f { is_shim_entry = true }
 

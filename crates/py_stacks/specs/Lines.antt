@@ -78,9 +78,11 @@ line_cost NoLine = 0
 line_cost First = 0
 line_cost LastInstruction = 2
 
+-- the bytes of a line table, where there is one
 abbrev pub table_of : Option (Vec ℕ Global) → Option (List ℕ)
 table_of t = option_map (λ (v : Vec ℕ Global). v.items) t
 
+-- a result with the bytes of its line table
 abbrev pub table_of_result : {E : Type 0} → Result (Option (Vec ℕ Global)) E → Result (Option (List ℕ)) E
 table_of_result (Ok t) = Ok (table_of t)
 table_of_result (Err e) = Err e

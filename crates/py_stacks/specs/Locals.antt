@@ -41,6 +41,7 @@ abbrev pub name_fault : ℕ → Fault → Fault
 name_fault frame (Missing addr len) = Missing addr len
 name_fault frame _ = BadValue frame
 
+-- the name of a variable, or why the variable of this frame has none
 abbrev pub named_local : ℕ → Found (List ℕ) → Found (List ℕ)
 named_local frame (Ok name) = Ok name
 named_local frame (Err f) = Err (name_fault frame f)
@@ -67,6 +68,7 @@ local_at l m r index = do
   slot ← word_at m (r.frame_at + l.frame.locals + 8 * index)
   Ok (local_by l r index name (cleared slot))
 
+-- the variable in a list, and nothing where its slot holds no value
 abbrev pub kept_local : Option LocalVariable → List LocalVariable
 kept_local None = []
 kept_local (Some v) = v ∷ []
@@ -94,6 +96,7 @@ asked_locals true l m r = locals_at l m r >>= (λ locals. Ok (Some locals))
 
 -- ---- how many reads
 
+-- the count of variables, where it can be one; else 0
 abbrev pub count_or_zero : Found ℕ → ℕ
 count_or_zero (Ok n) = n
 count_or_zero (Err f) = 0
@@ -110,6 +113,7 @@ locals_cost true l r = 1 + 4 * count_or_zero (count_of l r)
 
 -- ---- the faults, in order
 
+-- the first fault of each of so many variables, from an index on
 unfoldable pub each_faults : Layout → Memory → MemberAt → ℕ → ℕ → List Fault
 each_faults l m r index zero = []
 each_faults l m r index (suc n) =
@@ -120,15 +124,18 @@ unfoldable pub locals_faults : Layout → Memory → MemberAt → List Fault
 locals_faults l m r = faults_then (count_of l r)
     (λ count. faults_then (record_at m (names_tuple_of l r) l.tuple.size) (λ names. each_faults l m r 0 count))
 
+-- the faults of the locals, where they are asked for
 abbrev pub asked_faults : Bool → Layout → Memory → MemberAt → List Fault
 asked_faults false l m r = []
 asked_faults true l m r = locals_faults l m r
 
 -- ---- results
 
+-- the variables as a list, where there are some
 abbrev pub locals_of : Option (Vec LocalVariable Global) → Option (List LocalVariable)
 locals_of o = option_map (λ (v : Vec LocalVariable Global). v.items) o
 
+-- a result with its variables as a list
 abbrev pub locals_of_result : {E : Type 0} → Result (Option (Vec LocalVariable Global)) E
     → Result (Option (List LocalVariable)) E
 locals_of_result (Ok o) = Ok (locals_of o)

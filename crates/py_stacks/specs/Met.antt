@@ -25,9 +25,11 @@ abbrev pub part_locals : Asked → Layout → ℕ → MemberAt → Option Call �
 part_locals q l kept r None = 0
 part_locals q l kept r (Some c) = if nat_lt kept frame_limit then locals_read q.locals l r else 0
 
+-- the same by the address of a member, where so many are kept
 unfoldable pub member_locals : Asked → Layout → Memory → ℕ → ℕ → ℕ
 member_locals q l m kept a = cost_after (records_at l m a) (λ r. part_locals q l kept r (plain_by l m r))
 
+-- the variables that are read of a thread's frames
 unfoldable pub frames_locals : Asked → Layout → Memory → ℕ → ℕ
 frames_locals q l m first = walk_cost (frame_step q l m) (member_locals q l m) member_limit 0 first
 
@@ -40,9 +42,11 @@ abbrev pub over_threads : Asked → Layout → Memory → (Unit {0} → ℕ → 
 over_threads q l m count interpreter = cost_after (word_at m (interpreter + l.interpreter.threads))
     (λ head. walk_cost (thread_step q l m) count thread_limit tt head)
 
+-- how many threads of an interpreter are met
 unfoldable pub threads_met : Asked → Layout → Memory → ℕ → ℕ
 threads_met q l m interpreter = over_threads q l m (λ s a. 1) interpreter
 
+-- how many members of all their chains are met
 unfoldable pub members_met : Asked → Layout → Memory → ℕ → ℕ
 members_met q l m interpreter = over_threads q l m (of_thread (frames_met q l m) l m) interpreter
 
@@ -78,12 +82,15 @@ where_held l m lock n = cost_after (holder_id_at l m lock) (λ holder_id. n)
 unfoldable pub threads_walked : Asked → Layout → Memory → (lock interpreter : ℕ) → ℕ
 threads_walked q l m lock interpreter = where_held l m lock (threads_met q l m interpreter)
 
+-- the members that the stacks meet; 0 where the lock's holder can't be read
 unfoldable pub members_walked : Asked → Layout → Memory → (lock interpreter : ℕ) → ℕ
 members_walked q l m lock interpreter = where_held l m lock (members_met q l m interpreter)
 
+-- the reads of their details; 0 where the lock's holder can't be read
 unfoldable pub details_walked : Asked → Layout → Memory → (lock interpreter : ℕ) → ℕ
 details_walked q l m lock interpreter = where_held l m lock (details_cost q l m interpreter)
 
+-- the variables that the stacks meet; 0 where the lock's holder can't be read
 unfoldable pub locals_walked : Asked → Layout → Memory → (lock interpreter : ℕ) → ℕ
 locals_walked q l m lock interpreter = where_held l m lock (locals_met q l m interpreter)
 
@@ -97,9 +104,11 @@ stacks_bound q l m lock interpreter =
 unfoldable pub thread_members : Asked → Layout → Memory → ℕ → ℕ
 thread_members q l m thread = of_thread (frames_met q l m) l m tt thread
 
+-- the reads of the details that the stack of one thread takes
 unfoldable pub thread_details : Asked → Layout → Memory → ℕ → ℕ
 thread_details q l m thread = of_thread (frames_extra q l m) l m tt thread
 
+-- the variables that the stack of one thread meets
 unfoldable pub thread_locals : Asked → Layout → Memory → ℕ → ℕ
 thread_locals q l m thread = of_thread (frames_locals q l m) l m tt thread
 

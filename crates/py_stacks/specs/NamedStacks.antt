@@ -40,15 +40,17 @@ slots_named q l m lock interpreter =
 
 -- ---- a map, if there is one
 
+-- the name that a map has for a thread's id; none without a map
 abbrev pub name_in : Option (BTreeMap ℕ (List ℕ)) → ℕ → Option (List ℕ)
 name_in None id = None
 name_in (Some names) id = get nat_cmp names id
 
+-- a map has exactly the names that were found, and the error is out of memory
 abbrev pub NamesAreBy : Found (List Named) → Result (Option (BTreeMap ℕ (List ℕ))) StackError → Type 0
 NamesAreBy d (Ok names) = (id : ℕ) → name_in names id ≡ name_by d id
 NamesAreBy d (Err e) = e ≡ OutOfMemory
 
--- it has the names that were found; the one error is want of memory
+-- it has the names that were found; the one error is out of memory
 pub record GivesNames (d : Found (List Named))
     (result : Result (Option (BTreeMap ℕ (List ℕ))) StackError) : Type 0 where
   pub is : NamesAreBy d result

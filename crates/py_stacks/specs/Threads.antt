@@ -27,6 +27,7 @@ pub record Trace : Type 0 where
   pub owns_gil : Bool
   pub frames : List Call
 
+-- what a trace says of its thread, in plain terms
 abbrev pub trace_of : StackTrace → Trace
 trace_of t = record {
   pid = t.pid;
@@ -38,14 +39,17 @@ trace_of t = record {
   frames = map call_of t.frames.items;
 }
 
+-- a result with its trace in plain terms
 abbrev pub trace_of_result : {E : Type 0} → Result StackTrace E → Result Trace E
 trace_of_result (Ok t) = Ok (trace_of t)
 trace_of_result (Err e) = Err e
 
+-- one step of the walk of threads, by the next thread's address and the trace that were read
 abbrev pub thread_of_result : {E : Type 0} → Result (ℕ × StackTrace) E → Result (Step (Unit {0}) Trace) E
 thread_of_result (Ok x) = Ok (record { next = x.0; state = tt; part = trace_of x.1 })
 thread_of_result (Err e) = Err e
 
+-- a result with its traces in plain terms
 abbrev pub traces_of_result : {E : Type 0} → Result (Vec StackTrace Global) E → Result (List Trace) E
 traces_of_result (Ok v) = Ok (map trace_of v.items)
 traces_of_result (Err e) = Err e
@@ -60,6 +64,7 @@ abbrev pub frame_through : Option CframeAt → Memory → ℕ → Found ℕ
 frame_through None m a = Ok a
 frame_through (Some c) m a = word_at m (a + c.current)
 
+-- the address of a thread's first frame, by its record and where the layout has one by its C frame
 unfoldable pub first_frame_at : Layout → Memory → List ℕ → Found ℕ
 first_frame_at l m thread = frame_through l.cframe m (u64_in thread l.thread.frame)
 
@@ -87,6 +92,7 @@ thread_step q l m s a = do
 unfoldable pub trace_at : Asked → Layout → Memory → ℕ → Found Trace
 trace_at q l m a = thread_step q l m tt a >>= (λ x. Ok x.part)
 
+-- the traces of the threads from a head on, to null, or the first fault
 unfoldable pub threads_at : Asked → Layout → Memory → ℕ → Found (List Trace)
 threads_at q l m head = walk_at ThreadLimit (thread_step q l m) thread_limit tt head
 
@@ -107,9 +113,11 @@ thread_frames_cost q l m a =
 unfoldable pub thread_cost : Asked → Layout → Memory → Unit {0} → ℕ → ℕ
 thread_cost q l m s a = 2 + thread_frames_cost q l m a
 
+-- at most so many reads for the threads from a head on
 unfoldable pub threads_cost : Asked → Layout → Memory → ℕ → ℕ
 threads_cost q l m head = walk_cost (thread_step q l m) (thread_cost q l m) thread_limit tt head
 
+-- at most so many reads for an interpreter's threads: one for their head, and those of each
 unfoldable pub traces_cost : Asked → Layout → Memory → ℕ → ℕ
 traces_cost q l m interpreter =
     1 + cost_after (word_at m (interpreter + l.interpreter.threads)) (λ head. threads_cost q l m head)
@@ -154,6 +162,7 @@ unfoldable pub thread_faults : Asked → Layout → Memory → Unit {0} → ℕ 
 thread_faults q l m s a = faults_then (record_at m a l.thread.size)
     (λ thread. faults_then (first_frame_at l m thread) (λ first. frames_faults q l m first))
 
+-- where the chain of threads goes on
 unfoldable pub thread_next : Layout → Memory → Unit {0} → ℕ → Found (ℕ × Unit {0})
 thread_next l m s a = do
   thread ← record_at m a l.thread.size

@@ -34,6 +34,7 @@ text_or_mark (Err f) = codes "?"
 unfoldable pub value_text : Layout → Memory → ℕ → ℕ → List ℕ
 value_text l m width a = text_or_mark (local_value_at l m width a).0
 
+-- how many visits the value at an address takes
 unfoldable pub value_visits : Layout → Memory → ℕ → ℕ → ℕ
 value_visits l m width a = (local_value_at l m width a).1
 
@@ -53,30 +54,35 @@ by_value texts t = record t { frames = map (with_values texts) t.frames }
 
 -- ---- how many visits, by those that each address takes
 
+-- the visits that the values of some locals take
 abbrev pub locals_visits : (ℕ → ℕ) → List LocalVariable → ℕ
 locals_visits visits vs = sum_by (λ v. visits v.addr) vs
 
+-- the same, where a frame has locals
 abbrev pub asked_visits : (ℕ → ℕ) → Option (List LocalVariable) → ℕ
 asked_visits visits None = 0
 asked_visits visits (Some vs) = locals_visits visits vs
 
+-- the visits that the locals of a frame take
 abbrev pub call_visits : (ℕ → ℕ) → Call → ℕ
 call_visits visits c = asked_visits visits c.locals
 
+-- the visits that the locals of a thread's frames take
 abbrev pub trace_visits : (ℕ → ℕ) → Trace → ℕ
 trace_visits visits t = sum_by (call_visits visits) t.frames
 
+-- the visits that the locals of all traces take
 unfoldable pub traces_visits : (ℕ → ℕ) → List Trace → ℕ
 traces_visits visits ts = sum_by (trace_visits visits) ts
 
 -- ---- results
 
--- a text is a value, or want of memory is the error
+-- a text is a value, or out of memory is the error
 abbrev pub IsOrLost : List ℕ → Result (List ℕ) StackError → Type 0
 IsOrLost value (Ok text) = text ≡ value
 IsOrLost value (Err e) = e ≡ OutOfMemory
 
--- a question mark, for an error other than want of memory
+-- a question mark, for an error other than out of memory
 abbrev pub StandsFor : ObjectError → Result (List ℕ) StackError → Type 0
 StandsFor e (Ok mark) = (mark ≡ codes "?") × IsSome (object_fault e)
 StandsFor e (Err f) = f ≡ OutOfMemory

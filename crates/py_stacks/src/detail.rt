@@ -22,7 +22,7 @@ pub(crate) struct Detail {
 }
 
 /// The detail of the member that has these records: its line, and its locals where they are asked for. The errors
-/// are those of its locals, and want of memory.
+/// are those of its locals, and out of memory.
 #[tactic(auto, unfolding(crate::specs::Detail::detail_at, crate::specs::Detail::detail_cost))]
 pub(crate) fn read_detail<P: ProcessMemory>(
     alloc: Global,

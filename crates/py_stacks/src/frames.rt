@@ -29,7 +29,7 @@ fn mark_last(frames: &mut Vec<Frame>)
 }
 
 /// The same frame, whose two texts share their bytes with those of the same characters that were met before. The one
-/// error is want of memory.
+/// error is out of memory.
 pub fn share_texts(texts: &mut SharedTexts, frame: Frame) -> Result<Frame, AllocError>
     ensures { IfOk result (λ shared. shared ≡ frame) }
 {
@@ -83,7 +83,7 @@ fn add_part(
 /// marked where the next member is skipped or there is none. Its texts share their bytes with those of the same
 /// characters before it. The error is the first of these, in order: for
 /// each member those of `read_member`; `ChainLimit` where 16384 members were met and the next is not 0. Else
-/// it is want of memory. At most 6 reads for each member that is met, and those of its detail.
+/// it is out of memory. At most 6 reads for each member that is met, and those of its detail.
 pub(crate) fn read_frames<P: ProcessMemory>(
     alloc: Global,
     process: &mut P,

@@ -16,7 +16,7 @@ use process_memory::{ProcessMemory, word_past};
 use py_fields::Layout;
 use std::alloc::Global;
 
-/// What the test answers where a read or the walk fails so: a fault refuses the address, and want of memory is
+/// What the test answers where a read or the walk fails so: a fault refuses the address, and out of memory is
 /// handed on.
 fn refused_address(error: StackError) -> Result<bool, StackError>
     ensures { RefusesAddress error result }
@@ -95,7 +95,7 @@ fn walk_interpreter<P: ProcessMemory>(
 
 /// The address of the first thread of the interpreter at an address; 0 where it has none.
 ///
-/// `Unreadable` comes exactly where the word that names it is not in memory. It takes no memory: want of memory
+/// `Unreadable` comes exactly where the word that names it is not in memory. It takes no memory: out of memory
 /// comes only where a read of the process may want it. At most one read.
 pub fn get_first_thread<P: ProcessMemory>(
     process: &mut P,
@@ -114,7 +114,7 @@ pub fn get_first_thread<P: ProcessMemory>(
 /// there names the address, and its threads can be walked. See `is_interpreter`, of which this is what is left
 /// after its first read.
 ///
-/// The one error is want of memory. At most 2 reads, 2 for each thread that is met, and 6 for each member of its
+/// The one error is out of memory. At most 2 reads, 2 for each thread that is met, and 6 for each member of its
 /// chain of frames: for a cyclic chain as many as its limit lets be met.
 pub fn is_interpreter_from<P: ProcessMemory>(
     alloc: Global,
@@ -141,7 +141,7 @@ pub fn is_interpreter_from<P: ProcessMemory>(
 /// the locals. Whether a map of the process holds the address, and the first thread's, is left to the caller.
 ///
 /// A record that is not in memory, or a chain that goes on past its limit, refuses the address; the one error
-/// is want of memory. At most 3 reads, 2 for each thread that is met, and 6 for each member of its chain of
+/// is out of memory. At most 3 reads, 2 for each thread that is met, and 6 for each member of its chain of
 /// frames: for a cyclic chain as many as its limit lets be met.
 pub fn is_interpreter<P: ProcessMemory>(
     alloc: Global,

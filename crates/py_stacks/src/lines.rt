@@ -105,7 +105,7 @@ fn read_table<P: ProcessMemory>(
 }
 
 /// The line of the frame that has these records: the one that is asked for, and 0 where there is none. The one
-/// error is want of memory. At most 2 reads, of the line table, and none where it is not asked for.
+/// error is out of memory. At most 2 reads, of the line table, and none where it is not asked for.
 #[tactic(auto, unfolding(crate::specs::Lines::line_at, crate::specs::Lines::line_by))]
 pub fn read_line<P: ProcessMemory>(
     alloc: Global,

@@ -175,7 +175,7 @@ fn read_known<P: ProcessMemory>(
 /// The error is the first of these, in order: `BadValue` with a negative count of variables, `LocalsLimit`
 /// with one above 65535; `Unreadable` with the record of the tuple of names; for each variable `Unreadable`
 /// with the word that names it, then with its name, `BadValue` with a name that is no text, and `Unreadable`
-/// with its slot. Else it is want of memory. At most 1 read, and 4 for each variable; none where they are not
+/// with its slot. Else it is out of memory. At most 1 read, and 4 for each variable; none where they are not
 /// asked for.
 pub fn read_locals<P: ProcessMemory>(
     alloc: Global,

@@ -19,7 +19,7 @@ use py_objects::ObjectError;
 use std::alloc::{AllocError, Global};
 use std::collections::BTreeMap;
 
-/// The names of an interpreter's threads; none where there is a fault. The one error is want of memory.
+/// The names of an interpreter's threads; none where there is a fault. The one error is out of memory.
 fn read_name_map<P: ProcessMemory>(
     alloc: Global,
     process: &mut P,

@@ -73,7 +73,7 @@ pub(crate) fn read_bytes<P: ProcessMemory>(
 }
 
 /// Reads the two records of the member at an address into buffers, which have the sizes that the layout says after.
-/// `Unreadable` comes with the frame record, and then with the code record; else the error is want of memory. At
+/// `Unreadable` comes with the frame record, and then with the code record; else the error is out of memory. At
 /// most 2 reads.
 pub fn read_records<P: ProcessMemory>(
     process: &mut P,

@@ -83,7 +83,7 @@ fn walk_stack_traces<P: ProcessMemory>(
 /// walked and the next is not 0. Those of a frame's locals are, in order: `BadValue` with a negative count of
 /// variables, `LocalsLimit` with one above 65535; `Unreadable` with the record of the tuple of names, which is
 /// read also where there is no variable; for each variable `Unreadable` with the word that names it, then with
-/// its name, `BadValue` with a name that is no text, and `Unreadable` with its slot. Else it is want of memory.
+/// its name, `BadValue` with a name that is no text, and `Unreadable` with its slot. Else it is out of memory.
 ///
 /// At most 3 reads, 2 for each thread that is met, 6 for each member, 2 for the line of each member that is kept
 /// and 1 for its tuple of names, and 4 for each variable. Of a member that is not kept neither a table nor a
@@ -106,7 +106,7 @@ pub fn get_stack_traces<P: ProcessMemory>(
         (P.seen process.old) (P.seen process.new)
         (λ m. IfOk result (λ traces.
         AreStacks (asked_by config.entry) layout.now m lock interpreter (map trace_of traces.items))) }
-    // what is right is the answer, want of memory aside
+    // what is right is the answer, out of memory aside
     ensures only { ConsultingBy layout.now (λ m. stacks_cost (asked_by config.entry) layout.now m lock interpreter)
         (P.seen process.old) (P.seen process.new)
         (λ m. (traces : List Trace) → AreStacks (asked_by config.entry) layout.now m lock interpreter traces
@@ -152,7 +152,7 @@ fn walk_stack_trace<P: ProcessMemory>(
 /// say who holds the lock (`owns_gil` is false).
 ///
 /// The error is the first of these, in order: `Unreadable` with the thread's record, then with the C frame's
-/// word, and then those of its frames as `get_stack_traces` has them. Else it is want of memory. At most 2
+/// word, and then those of its frames as `get_stack_traces` has them. Else it is out of memory. At most 2
 /// reads, 6 for each member that is met, 3 for the line and the tuple of names of each one that is kept, and 4
 /// for each variable: at most 110,594 without locals, and with them 1,073,836,034 (`trace_most`).
 pub fn get_stack_trace<P: ProcessMemory>(
@@ -170,7 +170,7 @@ pub fn get_stack_trace<P: ProcessMemory>(
     ensures trace { ConsultingBy layout.now (λ m. thread_cost (asks lineno copy_locals) layout.now m tt thread)
         (P.seen process.old) (P.seen process.new)
         (λ m. IfOk result (λ trace. IsTraceOf (asks lineno copy_locals) layout.now m thread (trace_of trace))) }
-    // what is right is the answer, want of memory aside
+    // what is right is the answer, out of memory aside
     ensures only { ConsultingBy layout.now (λ m. thread_cost (asks lineno copy_locals) layout.now m tt thread)
         (P.seen process.old) (P.seen process.new)
         (λ m. (trace : Trace) → IsTraceOf (asks lineno copy_locals) layout.now m thread trace

@@ -51,7 +51,7 @@ fn read_stacks<P: ProcessMemory>(
 /// The name is that which `thread_names_from_interpreter` has for the trace's id, if there is one; where that
 /// has a fault, no thread has a name, and that is no error. The value is the text that `format_variable` gives of
 /// the local's address in a width of 128 times `dump_locals`, at most 2^63 - 1, with no visit counted before; where
-/// that has a fault, it is `?`, and that is no error. Want of memory is one.
+/// that has a fault, it is `?`, and that is no error. Out of memory is one.
 ///
 /// No more reads than `get_stack_traces` may make, 10, 12 for each slot of a dict that is looked at for names, and 8
 /// for each visit of a value. All visits together are no more than 4096 for each local that 4096 threads of 4096 frames
@@ -76,7 +76,7 @@ pub fn get_stack_over<P: ProcessMemory>(
         (λ m. IfOk result (λ traces.
         AreStacksOver config.now layout.now m addresses.now.lock addresses.now.interpreter
         (map trace_of traces.items))) }
-    // what is right is the answer, want of memory aside
+    // what is right is the answer, out of memory aside
     ensures only { ConsultingBy layout.now
         (λ m. stacks_over_cost config.now layout.now m addresses.now.lock addresses.now.interpreter)
         (P.seen process.old) (P.seen process.new)

@@ -30,7 +30,7 @@ pub fn native_id(at: Option<u32>, thread: &[u8]) -> Option<u64>
 }
 
 /// The first frame of a thread: the one that its record names, or the one that the C frame names which
-/// its record names. `Unreadable` comes with the C frame's word. It takes no memory: want of memory comes only
+/// its record names. `Unreadable` comes with the C frame's word. It takes no memory: out of memory comes only
 /// where a read of the process may want it. At most 1 read.
 #[tactic(auto, unfolding(crate::specs::Threads::first_frame_at))]
 pub fn first_frame<P: ProcessMemory>(

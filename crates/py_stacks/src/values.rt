@@ -33,7 +33,7 @@ pub(crate) fn value_width(levels: u64) -> u64
     }
 }
 
-/// A question mark in place of an error. The one error is want of memory.
+/// A question mark in place of an error. The one error is out of memory.
 fn mark_for(alloc: Global, error: ObjectError) -> Result<Text, StackError>
     ensures { StandsFor error result }
 {
@@ -43,7 +43,7 @@ fn mark_for(alloc: Global, error: ObjectError) -> Result<Text, StackError>
     }
 }
 
-/// The text, or a question mark in place of an error. The one error is want of memory.
+/// The text, or a question mark in place of an error. The one error is out of memory.
 fn text_or_mark(alloc: Global, shown: Result<Text, ObjectError>) -> Result<Text, StackError>
     ensures { MarkedAs shown result }
 {

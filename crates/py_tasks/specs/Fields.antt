@@ -19,11 +19,13 @@ state_of word = state_by (word % 2 ^ 32)
 unfoldable pub has_bit : ℕ → ℕ → Bool
 has_bit word bit = if nat_le 8 bit then false else nat_eq (word / 2 ^ bit % 2) 1
 
+-- the state of the future or task at an address (`fut_state`)
 unfoldable pub state_at : TaskPlaces → Memory → ℕ → Found TaskState
 state_at p m a = do
   word ← word_at m (a + p.state)
   Ok (state_of word)
 
+-- what the record of a task says, field by field
 abbrev pub fields : TaskState → Bool → ℕ → ℕ → ℕ → Fields
 fields state must_cancel event_loop waiter coro = record {
   state = state;

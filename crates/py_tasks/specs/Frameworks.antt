@@ -36,18 +36,22 @@ framework_at l m a = do
 unfoldable pub known_framework_at : Layout → Memory → Attribute → Found (Option Framework)
 known_framework_at l m a = Ok (found_or_none (framework_at l m a))
 
+-- the framework of the module at an index of a dict's entries
 abbrev pub frameworks_by : Layout → Memory → List Attribute → ℕ → Found (Option Framework)
 frameworks_by l m entries number = known_framework_at l m (get_or entries number no_attribute)
 
+-- whether both are the same framework
 abbrev pub is_framework : Framework → Framework → Bool
 is_framework Curio Curio = true
 is_framework Greenlet Greenlet = true
 is_framework Trio Trio = true
 is_framework _ _ = false
 
+-- whether a framework is in a list
 abbrev pub has_framework : Framework → List Framework → Bool
 has_framework sought list = list_any (λ own. is_framework own sought) list
 
+-- which frameworks a list has
 abbrev pub frameworks_of : List Framework → Frameworks
 frameworks_of list = record {
   curio = has_framework Curio list;
@@ -66,6 +70,7 @@ frameworks_in l m modules = do
 abbrev pub by_modules_at : Layout → Memory → ℕ → Found (Option Frameworks)
 by_modules_at l m modules = if nat_eq modules 0 then Ok (Some (frameworks_of [])) else frameworks_in l m modules
 
+-- the frameworks that the interpreter at an address has, by its dict of modules
 unfoldable pub all_frameworks_at : Layout → Memory → ℕ → Found (Option Frameworks)
 all_frameworks_at l m interpreter = do
   modules ← word_at m (interpreter + l.interpreter.modules)

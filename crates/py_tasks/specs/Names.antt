@@ -16,6 +16,7 @@ use Rattle.py_tasks.specs.declared.task.TaskName.{TaskName}
 use Rattle.py_tasks.specs.declared.task.TaskName.TheVariants.{Text, Number}
 use Rattle.py_tasks.specs.Faults.{found_or_none}
 
+-- the characters of bytes that are UTF-8; none where they aren't
 abbrev pub text_if : Option (List ℕ) → Option (List ℕ)
 text_if None = None
 text_if (Some bytes) = if is_utf8 bytes then Some (chars bytes) else None
@@ -31,18 +32,22 @@ class_text_at l m a = do
   bytes ← record_at m t.name 128
   Ok (class_name bytes)
 
+-- the name of the type of the object at an address; none where it can't be read
 unfoldable pub class_at : Layout → Memory → ℕ → Found (Option (List ℕ))
 class_at l m a = Ok (found_or_none (class_text_at l m a))
 
+-- the name that the text at an address is
 unfoldable pub text_name_at : Layout → Memory → ℕ → Found (Option TaskName)
 text_name_at l m a = do
   text ← text_at l m a
   Ok (Some (Text text))
 
+-- a number as a name; none where the integer has more than two digits (`PyLongObject`)
 abbrev pub number_or : Bool → ℕ → Option TaskName
 number_or true n = None
 number_or false n = Some (Number n)
 
+-- the name that the integer at an address is
 unfoldable pub number_at : Layout → Memory → ℕ → Found (Option TaskName)
 number_at l m a = do
   number ← long_at l m a

@@ -35,6 +35,7 @@ use Rattle.py_tasks.specs.Types.{sizes_of, types_at}
 unfoldable pub chain_limit : ℕ → ℕ
 chain_limit count = if nat_le count 64 then 16384 else 1048576 / count
 
+-- the registered objects at these addresses, each as what it is
 unfoldable pub read_at : Layout → Described → Memory → List ℕ → Found TasksShown
 read_at l d m addresses = do
   entries ← gathered (entries_of l d m (chain_limit (length addresses)) addresses) (length addresses) 0
@@ -45,11 +46,13 @@ unfoldable pub few_at : Layout → Described → Memory → List ℕ → Found T
 few_at l d m addresses =
     if nat_lt 65536 (length addresses) then Ok (TasksShown.TasksLost TooMany) else read_at l d m addresses
 
+-- the registered objects of an interpreter, each as what it is
 unfoldable pub listed_at : Layout → Described → Memory → Roots → Found TasksShown
 listed_at l d m roots = do
   registered ← registered_at l d.roots m roots
   few_at l d m registered
 
+-- where the parts of tasks, of what registers them and of coroutines stand, with the types of futures and tasks
 abbrev pub described_with : TaskPlaces → RootPlaces → AwaitTypes → Places → Described
 described_with p r types awaits = record {
   places = p;
@@ -58,11 +61,13 @@ described_with p r types awaits = record {
   awaits = awaits;
 }
 
+-- whether the fields that tell the top of a frame's stack lie inside a record of so many bytes
 abbrev pub sound_stack : ApartStack → ℕ → Bool
 sound_stack (Pointer top) size = nat_le (top + 8) size
 sound_stack (Depth bottom depth state states) size =
     nat_le (bottom + 8) size && (nat_le (depth + 4) size && nat_le (state + 1) size)
 
+-- whether the byte that tells if it runs lies inside a record of so many bytes, where there is one
 abbrev pub sound_running : Option ℕ → ℕ → Bool
 sound_running None size = true
 sound_running (Some place) size = nat_le (place + 1) size
@@ -77,6 +82,7 @@ sound_family (Inside p) =
     nat_le (p.state + 1) p.size && (nat_le (p.frame + p.instruction + 8) p.size
     && (nat_le (p.frame + p.depth + 4) p.size && nat_lt p.size (2 ^ 16)))
 
+-- where the parts of coroutines stand, if what is read of them lies inside their records
 abbrev pub if_sound : Option Places → Option Places
 if_sound None = None
 if_sound (Some p) = if sound_family p.family then Some p else None
@@ -95,23 +101,28 @@ unfoldable pub described_at : Layout → Records → Memory → TaskPlaces → R
     → Found TasksShown
 described_at l records m p r roots types = by_places l m p r roots types (sound_places l records types)
 
+-- where a type has its size and its first base (`tp_basicsize`, `tp_base`)
 abbrev pub fields_of : TaskPlaces → TypeFields
 fields_of p = record { basic_size = p.basic_size; base = p.base }
 
+-- the tasks of an interpreter, by the types that its modules have
 unfoldable pub typed_at : Layout → Records → Memory → TaskPlaces → RootPlaces → ℕ → Roots → ℕ → Found TasksShown
 typed_at l records m p r modules roots task = do
   types ← types_at l (fields_of p) m (sizes_of records) modules task
   described_at l records m p r roots types
 
+-- the tasks, where the type of tasks has objects of the described size; else that their size is another one
 abbrev pub by_size : Layout → Records → Memory → TaskPlaces → RootPlaces → ℕ → Roots → ℕ → ℕ → Found TasksShown
 by_size l records m p r modules roots task size =
     if nat_eq size p.size then typed_at l records m p r modules roots task else Ok (TasksShown.TasksResized size)
 
+-- the same, by the size that the type of tasks says
 unfoldable pub checked_at : Layout → Records → Memory → TaskPlaces → RootPlaces → ℕ → Roots → ℕ → Found TasksShown
 checked_at l records m p r modules roots task = do
   size ← word_at m (task + p.basic_size)
   by_size l records m p r modules roots task size
 
+-- the same, where the module `asyncio.tasks` has such a type; without one nothing is checked
 abbrev pub by_task : Layout → Records → Memory → TaskPlaces → RootPlaces → ℕ → Roots → Option ℕ → Found TasksShown
 by_task l records m p r modules roots None = typed_at l records m p r modules roots 0
 by_task l records m p r modules roots (Some task) = checked_at l records m p r modules roots task
@@ -120,6 +131,7 @@ by_task l records m p r modules roots (Some task) = checked_at l records m p r m
 unfoldable pub sized_at : Layout → Records → Memory → TaskPlaces → RootPlaces → ℕ → Roots → Found TasksShown
 sized_at l records m p r modules roots = by_task l records m p r modules roots roots.task
 
+-- the same, where the records of a version describe tasks and what registers them; else that they are unknown
 abbrev pub by_described : Layout → Records → Memory → ℕ → Roots → Option TaskPlaces → Option RootPlaces
     → Found TasksShown
 by_described l records m modules roots (Some p) (Some r) = sized_at l records m p r modules roots
@@ -131,6 +143,7 @@ by_roots_at l records m slots modules None = Ok TasksShown.WithoutTasks
 by_roots_at l records m slots modules (Some roots) =
     by_described l records m modules roots (task_places_of records) (places_of l records slots)
 
+-- the tasks of an interpreter, by its dict of modules
 abbrev pub with_modules : Layout → Records → Memory → (slots : ℕ) → ℕ → Found TasksShown
 with_modules l records m slots modules = do
   roots ← roots_at l m modules
@@ -141,15 +154,18 @@ unfoldable pub by_modules_at : Layout → Records → Memory → (slots : ℕ) �
 by_modules_at l records m slots modules =
     if nat_eq modules 0 then Ok TasksShown.WithoutTasks else with_modules l records m slots modules
 
+-- the tasks of the interpreter at an address
 unfoldable pub all_at : Layout → Records → Memory → (slots : ℕ) → ℕ → Found TasksShown
 all_at l records m slots interpreter = do
   modules ← word_at m (interpreter + l.interpreter.modules)
   by_modules_at l records m slots modules
 
+-- a fault is told as lost tasks, and out of memory as an error
 abbrev pub IsLostTasks : Option Fault → Result TasksShown NamesError → Type 0
 IsLostTasks None result = result ≡ Err OutOfMemory
 IsLostTasks (Some f) result = result ≡ Ok (TasksShown.TasksLost (lost_by f))
 
+-- the tasks; lost where something that leads to them can't be read
 abbrev pub tasks_or : Found TasksShown → TasksShown
 tasks_or (Ok t) = t
 tasks_or (Err f) = TasksShown.TasksLost (lost_by f)
@@ -158,6 +174,7 @@ tasks_or (Err f) = TasksShown.TasksLost (lost_by f)
 unfoldable pub tasks_at : Layout → Records → Memory → (slots : ℕ) → ℕ → Found TasksShown
 tasks_at l records m slots interpreter = Ok (tasks_or (all_at l records m slots interpreter))
 
+-- a reader's result with tasks as they are shown
 abbrev pub tasks_result : {E : Type 0} → Result TasksOf E → Result TasksShown E
 tasks_result (Ok t) = Ok (tasks_shown t)
 tasks_result (Err e) = Err e

@@ -24,6 +24,7 @@ use Rattle.py_tasks.specs.Names.{name_at}
 use Rattle.py_tasks.specs.Shown.{ChainShown, TaskShown, task_shown}
 use Rattle.py_tasks.specs.Waiters.{waiter_at}
 
+-- the id that the integer at an address is; none where there is no address
 unfoldable pub thread_number_at : Layout → Memory → Option ℕ → Found (Option ℕ)
 thread_number_at l m None = Ok None
 thread_number_at l m (Some a) = do
@@ -36,10 +37,12 @@ loop_thread_at l p m event_loop = do
   number ← attribute_at l p m (codes "_thread_id") event_loop
   thread_number_at l m number
 
+-- whether a chain stops at a coroutine that runs
 abbrev pub stops_running : Stop → Bool
 stops_running Running = true
 stops_running _ = false
 
+-- whether a chain ends at a coroutine that runs
 abbrev pub ends_running : AwaitEnd → Bool
 ends_running (Stops why) = stops_running why
 ends_running (Cycle a) = false
@@ -50,10 +53,12 @@ abbrev pub is_running : TaskState → AwaitEnd → Bool
 is_running Pending end = ends_running end
 is_running _ end = false
 
+-- the id of the thread that runs a task, where it runs; by its loop, none where that can't be read
 unfoldable pub thread_at : Layout → RootPlaces → Memory → Bool → ℕ → Found (Option ℕ)
 thread_at l p m false event_loop = Ok None
 thread_at l p m true event_loop = Ok (found_or_none (loop_thread_at l p m event_loop))
 
+-- a task with its parts
 abbrev pub task_with : ℕ → Option TaskName → Fields → Option ℕ → Option Waiter → ChainShown → TaskShown
 task_with a name fields thread waiter chain = record {
   address = a;
@@ -66,6 +71,7 @@ task_with a name fields thread waiter chain = record {
   chain = chain;
 }
 
+-- a reader's result with a task as it is shown
 abbrev pub task_result : {E : Type 0} → Result Task E → Result TaskShown E
 task_result (Ok t) = Ok (task_shown t)
 task_result (Err e) = Err e

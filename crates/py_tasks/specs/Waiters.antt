@@ -12,6 +12,7 @@ use Rattle.py_tasks.specs.Faults.{found_or_none}
 use Rattle.py_tasks.specs.Fields.{state_at}
 use Rattle.py_tasks.specs.Names.{class_at}
 
+-- the state of an object, if it is a future of the C module
 unfoldable pub state_if : TaskPlaces → Memory → Bool → ℕ → Found (Option TaskState)
 state_if p m false a = Ok None
 state_if p m true a = do
@@ -25,12 +26,15 @@ future_state_at l p t m a = do
   is ← leads_at p.base m class t.future 64
   state_if p m is a
 
+-- what a task waits for, with its class's name and its state
 abbrev pub waiter : ℕ → Option (List ℕ) → Option TaskState → Waiter
 waiter a class state = record { address = a; class = class; state = state }
 
+-- the state of what a task waits for; none also where it can't be read
 unfoldable pub known_state_at : Layout → TaskPlaces → TaskTypes → Memory → ℕ → Found (Option TaskState)
 known_state_at l p t m a = Ok (found_or_none (future_state_at l p t m a))
 
+-- what a task waits for, at an address that isn't 0
 unfoldable pub some_waiter_at : Layout → TaskPlaces → TaskTypes → Memory → ℕ → Found (Option Waiter)
 some_waiter_at l p t m a = do
   class ← class_at l m a

@@ -42,7 +42,7 @@ fn read_known_kind<P: ProcessMemory>(
     or_none(read_own_kind(process, places, at))
 }
 
-/// A frame, where it was read; want of memory is handed on.
+/// A frame, where it was read; out of memory is handed on.
 fn frame_or_none(
     frame: Result<Option<CoroutineFrame>, StackError>,
 ) -> Result<Option<CoroutineFrame>, NamesError>

@@ -111,7 +111,7 @@ fn read_known<P: ProcessMemory>(
     read_other(alloc, process, layout, address)
 }
 
-/// One of which something is not told; want of memory is handed on.
+/// One of which something is not told; out of memory is handed on.
 fn lost_entry(address: u64, error: NamesError) -> Result<Option<Entry>, NamesError>
     ensures { IsLostEntry address (names_fault error) (entry_result result) }
 {

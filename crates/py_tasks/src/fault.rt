@@ -17,7 +17,7 @@ pub enum TasksFault {
     Malformed,
 }
 
-/// The fault that an error is; want of memory is handed on.
+/// The fault that an error is; out of memory is handed on.
 pub(crate) fn fault_by(error: NamesError) -> Result<TasksFault, NamesError>
     ensures { IsLostBy (names_fault error) result }
 {
@@ -40,7 +40,7 @@ pub(crate) fn fault_by(error: NamesError) -> Result<TasksFault, NamesError>
     }
 }
 
-/// None, where something is not told; want of memory is handed on.
+/// None, where something is not told; out of memory is handed on.
 pub(crate) fn or_none<T: Drop>(
     found: Result<Option<T>, NamesError>,
 ) -> Result<Option<T>, NamesError>

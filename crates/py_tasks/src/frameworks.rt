@@ -192,7 +192,7 @@ fn read_all<P: ProcessMemory>(
 
 /// Which frameworks besides asyncio the interpreter at an address has, by the names in its dict of modules
 /// (`sys.modules`), of which 65536 slots are looked at, at most; an interpreter without modules has none. None is the
-/// answer where that dict can't be read; a name that can't be read is no framework's. The one error is want of memory.
+/// answer where that dict can't be read; a name that can't be read is no framework's. The one error is out of memory.
 /// At most 262148 reads: 4, and 4 for each slot.
 pub fn read_frameworks<P: ProcessMemory>(
     alloc: Global,

@@ -337,7 +337,7 @@ fn read_all<P: ProcessMemory>(
     read_by_modules(alloc, process, layout, records, slots, modules)
 }
 
-/// None that are told; want of memory is handed on.
+/// None that are told; out of memory is handed on.
 fn lost_tasks(error: NamesError) -> Result<TasksOf, NamesError>
     ensures { IsLostTasks (names_fault error) (tasks_result result) }
 {
@@ -358,7 +358,7 @@ fn lost_tasks(error: NamesError) -> Result<TasksOf, NamesError>
 ///
 /// A chain has at most 16384 members, and fewer where there are more than 64 tasks, so that all chains have at most
 /// 2^20. More than 65536 registered objects are `TooMany`, and so are more than `slots` entries of all sets together,
-/// or than 2^20. The one error is want of memory.
+/// or than 2^20. The one error is out of memory.
 pub fn read_tasks<P: ProcessMemory>(
     alloc: Global,
     process: &mut P,

@@ -10,6 +10,7 @@ use Rattle.py_waits.specs.declared.places.WaitPlaces.{WaitPlaces}
 use Rattle.py_waits.specs.Objects.{slot_step}
 use Rattle.py_waits.specs.Words.{word_in}
 
+-- the newest frame: what a thread names, or what the `_PyCFrame` there names; none where that isn't in memory
 abbrev pub current_at : Memory → Option CframeAt → Option ℕ → Found (Option ℕ)
 current_at m None named = Ok named
 current_at m (Some cframe) named = word_in m named cframe.current
@@ -28,6 +29,7 @@ slots_from l m p at frame (suc n) number found = do
   next ← slot_step m p at frame (l.frame.locals + 8 * number) found
   slots_from l m p at frame n (number + 1) next
 
+-- the first object that the first 128 words of a frame lead to, where none was found before
 abbrev pub in_frame : Layout → Memory → WaitPlaces → (at : ℕ) → Option ℕ → Option Waited → Found (Option Waited)
 in_frame l m p at frame found = slots_from l m p at frame 128 0 found
 

@@ -11,6 +11,7 @@ is_of None class = false
 is_of (Some w) None = false
 is_of (Some w) (Some class) = not (class == 0) && (w.class == class)
 
+-- where an object has its semaphore or byte, in bytes; 0 where no such type is known
 abbrev pub place_of : Option Waitable → ℕ
 place_of None = 0
 place_of (Some w) = w.place

@@ -7,14 +7,17 @@ use Rattle.elf64_core.specs.Fields.{u64_in}
 use Rattle.elf64_core.specs.declared.header.Machine.{Machine}
 use Rattle.elf64_core.specs.declared.header.Machine.TheVariants as machine
 
+-- the first argument of `futex` by the registers of x86-64 (`orig_rax`, `rdi`), also of a restarted call
 unfoldable pub x86_64_futex : List ℕ → Option ℕ
 x86_64_futex status = if nat_lt (length status) 336 then None
     else if u64_in status 232 == 202 || u64_in status 232 == 219 then Some (u64_in status 224) else None
 
+-- the first argument of `futex` by the registers of AArch64 (`x8`, `x0`), also of a restarted call
 unfoldable pub aarch64_futex : List ℕ → Option ℕ
 aarch64_futex status = if nat_lt (length status) 392 then None
     else if u64_in status 176 == 98 || u64_in status 176 == 128 then Some (u64_in status 112) else None
 
+-- the word at which a thread stands in `futex`, by its status record; none in another call or on another machine
 abbrev pub futex_of : Machine → List ℕ → Option ℕ
 futex_of machine.X86_64 status = x86_64_futex status
 futex_of machine.Aarch64 status = aarch64_futex status

@@ -30,6 +30,7 @@ owner_if None owner = None
 owner_if (Some zero) owner = None
 owner_if (Some (suc n)) owner = owner
 
+-- the owner of the reentrant lock at an address, where its place is described and some thread holds it
 abbrev pub owner_at : Memory → Option OwnerAt → ℕ → Found (Option ℕ)
 owner_at m None a = Ok None
 owner_at m (Some place) a = do
@@ -57,6 +58,7 @@ pub record IsParked (m : Memory) (klass at address : ℕ) (w : Waitable) : Type 
   pub high : 8 ≤ at
   pub byte : word_at m (at - 8) ≡ Ok (address + w.place)
 
+-- something holds of what is there; never where nothing is
 abbrev pub OfSome : Option Waitable → (Waitable → Type 0) → Type 0
 OfSome None P = ⊥
 OfSome (Some w) P = P w
@@ -71,6 +73,7 @@ IsWaiting m p gil at (Queue a) =
 
 -- ---- what is told
 
+-- what a thread waits for, by an object of this kind at an address; with the owner of a reentrant lock
 abbrev pub held_by : Memory → Option OwnerAt → Kind → ℕ → Found (Option Wait)
 held_by m owner kind.Lock a = Ok (Some (Lock a))
 held_by m owner kind.Queue a = Ok (Some (Queue a))
@@ -78,47 +81,57 @@ held_by m owner kind.Rlock a = do
   holder ← owner_at m owner a
   Ok (Some (Rlock a holder))
 
+-- the same, where an object was found
 abbrev pub told_at : Memory → Option OwnerAt → Option Waited → Found (Option Wait)
 told_at m owner None = Ok None
 told_at m owner (Some w) = held_by m owner w.kind w.address
 
+-- the object for which a thread that stands at a word waits, parked there or among what its newest frames hold
 unfoldable pub looked_at : Layout → Memory → WaitPlaces → (thread at : ℕ) → Found (Option Wait)
 looked_at l m p thread at = do
   parked ← parked_at m p at
   found ← searched_at l m p thread at parked
   told_at m p.owner found
 
+-- the interpreter's lock, if the word lies in its record; else the object that is found
 abbrev pub wait_if : (is_within : Bool) → Layout → Memory → WaitPlaces → (thread at : ℕ) → Found (Option Wait)
 wait_if true l m p thread at = Ok (Some Interpreter)
 wait_if false l m p thread at = looked_at l m p thread at
 
+-- what a thread that stands at a word waits for; none where nothing is found
 unfoldable pub wait_at : Layout → Memory → WaitPlaces → Option LockRange → (thread at : ℕ) → Found (Option Wait)
 wait_at l m p gil thread at = wait_if (is_within gil at) l m p thread at
 
 -- ---- where the record of the interpreter's lock stands
 
+-- the record of a lock at an address, with so many bytes; none without an address
 abbrev pub range_from : Option ℕ → ℕ → Option LockRange
 range_from None size = None
 range_from (Some a) size = Some (record { address = a; size = size })
 
+-- the address so many bytes behind another one, where it fits in 64 bits
 abbrev pub past : ℕ → ℕ → Option ℕ
 past a by = if nat_lt (a + by) (2 ^ 64) then Some (a + by) else None
 
+-- the record of the lock that all interpreters share, inside the runtime's record (`_PyRuntimeState`)
 abbrev pub runtime_range : Option RuntimeLockRecord → Option ℕ → Option LockRange
 runtime_range None runtime = None
 runtime_range (Some r) None = None
 runtime_range (Some r) (Some runtime) = range_from (past runtime r.place) r.size
 
+-- the record of so many bytes that an interpreter names as its lock (`ceval.gil`), where its place is known
 abbrev pub range_at : Memory → (size : ℕ) → (place : Option ℕ) → (interpreter : ℕ) → Found (Option LockRange)
 range_at m size None interpreter = Ok None
 range_at m size (Some place) interpreter = do
   a ← word_in m (Some interpreter) place
   Ok (range_from a size)
 
+-- the record of an interpreter's own lock, where the version has such
 abbrev pub own_range : Memory → Option InterpreterLockRecord → Option ℕ → ℕ → Found (Option LockRange)
 own_range m None place interpreter = Ok None
 own_range m (Some r) place interpreter = range_at m r.size place interpreter
 
+-- the record of the lock of an interpreter: its own, else the runtime's
 unfoldable pub lock_range_at : Layout → Memory → LockRecords → (runtime : Option ℕ) → (interpreter : ℕ)
     → Found (Option LockRange)
 lock_range_at l m r runtime interpreter = do

@@ -76,7 +76,7 @@ fn push_threads(text: &mut String, threads: &[ThreadWait]) -> Result<(), AllocEr
 
 /// Appends a line for each thread of which it is known what it waits for, in the order of the interpreters and of their
 /// chains: `Thread 0x7F.. waits for the GIL`, or for `Lock 0x..`, `RLock 0x.. of thread 0x7F..` or `SimpleQueue 0x..`.
-/// The one error is want of memory.
+/// The one error is out of memory.
 pub fn push_waits(text: &mut String, waits: &[InterpreterWaits]) -> Result<(), AllocError>
     ensures { OnOk result (string_bytes text.new ≡ string_bytes text.old ++ waits_text waits.now) }
 {

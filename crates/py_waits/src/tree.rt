@@ -108,7 +108,7 @@ fn interpreter_value(alloc: Global, waits: &InterpreterWaits) -> Result<Value, A
 /// an object whose `kind` is `gil`, or `lock`, `rlock` or `queue`, with the `address` of that object, and of an `rlock`
 /// the id of its `owner`, or null.
 ///
-/// The keys of an object stand in the order of their bytes. The one error is want of memory.
+/// The keys of an object stand in the order of their bytes. The one error is out of memory.
 pub fn waits_value(alloc: Global, waits: &[InterpreterWaits]) -> Result<Value, AllocError>
     ensures { IfOk result (λ value. view value ≡ waits_tree waits.now) }
 {

@@ -18,7 +18,7 @@ use py_records::{LockRecords, Records};
 use std::alloc::Global;
 use type_places::{TypeFields, TypePlace, module_type};
 
-/// Whether an error is want of memory.
+/// Whether an error is out of memory.
 fn is_wanting(error: &NamesError) -> bool
     ensures { result ≡ is_none (names_fault error.now) }
 {
@@ -356,7 +356,7 @@ fn queue_type<P: ProcessMemory>(
 /// those that its modules `_thread` and `_queue` have as `LockType`, `RLock` and `SimpleQueue`, where each is a type
 /// whose instances have the size that the records say; one that can't be found is none.
 ///
-/// The one error is want of memory. At most 786463 reads.
+/// The one error is out of memory. At most 786463 reads.
 #[tactic(auto, unfolding(crate::specs::Types::places_at))]
 pub fn read_places<P: ProcessMemory>(
     alloc: Global,

@@ -155,7 +155,7 @@ fn own_wait<P: ProcessMemory>(
 /// object that what stands there is bound to. None comes where none of them is. A word that is not in memory is passed
 /// over.
 ///
-/// The one error is want of memory, and it comes only where a read of the process may want it. At most 2313 reads.
+/// The one error is out of memory, and it comes only where a read of the process may want it. At most 2313 reads.
 pub fn read_wait<P: ProcessMemory>(
     process: &mut P,
     layout: &Layout,

@@ -34,6 +34,7 @@ pub record IsFloatText (bits : ℕ) (text : List ℕ) : Type 0 where
 abbrev pub signed_part : List ℕ → List ℕ
 signed_part part = if starts_with_minus part then part else codes "+" ++ part
 
+-- the text of a complex number of two parts
 abbrev pub parts_text : List ℕ → List ℕ → List ℕ
 parts_text real imaginary = codes "(" ++ (real ++ (signed_part imaginary ++ codes "j)"))
 

@@ -52,9 +52,11 @@ hex_text c =
     else if nat_lt c 0x1_0000 then codes "\\u" ++ hex_of 4 c
     else codes "\\U" ++ hex_of 8 c
 
+-- a character as it is, where it is shown plain, else by its number (`\x`, `\u`, `\U`)
 abbrev pub long_text : Style → ℕ → List ℕ
 long_text style c = if stands_plain style c then encode_utf8 c else hex_text c
 
+-- a character, or its short escape behind `\`
 abbrev pub text_by : Style → ℕ → Option ℕ → List ℕ
 text_by style c None = long_text style c
 text_by style c (Some short) = 92 ∷ encode_utf8 short
@@ -63,6 +65,7 @@ text_by style c (Some short) = 92 ∷ encode_utf8 short
 unfoldable pub point_text : Style → ℕ → ℕ → List ℕ
 point_text style quote c = text_by style c (short_of style quote c)
 
+-- whether a text has this character
 abbrev pub has : ℕ → List ℕ → Bool
 has c points = list_any (λ p. nat_eq p c) points
 

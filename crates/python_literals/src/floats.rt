@@ -125,7 +125,7 @@ fn push_by_bits(
     Ok(())
 }
 
-/// Appends a float as Python's `repr` writes it, by the bits of its 8 bytes. The one error is want of memory.
+/// Appends a float as Python's `repr` writes it, by the bits of its 8 bytes. The one error is out of memory.
 pub fn push_float(alloc: Global, text: &mut String, bits: u64) -> Result<(), AllocError>
     ensures { OnOk result ((t : List ℕ) × (string_bytes text.new ≡ string_bytes text.old ++ t) × IsFloatText bits t) }
 {
@@ -187,7 +187,7 @@ fn push_complex_parts(
 }
 
 /// Appends a complex number as Python's `repr` writes it, by the bits of its two floats: without a real part that is 0
-/// and has no sign. The one error is want of memory.
+/// and has no sign. The one error is out of memory.
 pub fn push_complex(
     alloc: Global,
     text: &mut String,

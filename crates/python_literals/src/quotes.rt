@@ -168,7 +168,7 @@ fn push_points(
 
 /// Appends code points in quotes, as Python's `repr` writes them: in apostrophes, unless there is an apostrophe among
 /// them and no double quote. What does not stand for itself is escaped. A surrogate may be among them. The one error is
-/// want of memory.
+/// out of memory.
 #[tactic(auto, unfolding(crate::specs::Quotes::quoted))]
 pub fn push_quoted(text: &mut String, style: Style, points: &[u32]) -> Result<(), AllocError>
     ensures adds { OnOk result (string_bytes text.new ≡ string_bytes text.old ++ quoted style points.now) }

@@ -40,9 +40,11 @@ kind_tree kind = object (member (codes "kind") (string kind) no_members)
 abbrev pub valued_tree : List ℕ → Data → Data
 valued_tree kind value = object (member (codes "kind") (string kind) (member (codes "value") value no_members))
 
+-- a `bool` as JSON
 abbrev pub truth_tree : Bool → Data
 truth_tree truth = valued_tree (codes "bool") (boolean truth)
 
+-- the word for an integer: `long` is Python 2's
 abbrev pub integer_kind : IntegerForm → List ℕ
 integer_kind integer.Int = codes "int"
 integer_kind integer.Long = codes "long"
@@ -55,6 +57,7 @@ small_number (low ∷ []) = Some low
 small_number (low ∷ high ∷ []) = if nat_le (low + high * 2 ^ 30) (2 ^ 53) then Some (low + high * 2 ^ 30) else None
 small_number (low ∷ high ∷ more ∷ rest) = None
 
+-- a number with its sign
 abbrev pub signed : Bool → ℕ → ℤ
 signed is_negative n = if is_negative then neg_ℤ (pos n) else pos n
 
@@ -63,6 +66,7 @@ abbrev pub number_or_text : Bool → List ℕ → Option ℕ → Data
 number_or_text is_negative digits (Some small) = number (of_integer (signed is_negative small))
 number_or_text is_negative digits None = string (integer_text is_negative digits)
 
+-- an integer by its digits of 30 bits, as JSON
 abbrev pub integer_tree : IntegerForm → Bool → List ℕ → Data
 integer_tree form is_negative digits =
     valued_tree (integer_kind form) (number_or_text is_negative digits (small_number digits))
@@ -93,6 +97,7 @@ part_tree bits decimal = object (
     member (codes "bits") (hex_tree bits) (
     member (codes "text") (string decimal) no_members))
 
+-- a complex number by the JSON of its parts
 abbrev pub complex_tree : (real imaginary : Data) → Data
 complex_tree real imaginary = object (
     member (codes "imaginary") imaginary (
@@ -103,13 +108,16 @@ complex_tree real imaginary = object (
 abbrev pub character_of : ℕ → ℕ
 character_of point = if scalar point then point else 0xFFFD
 
+-- code points in UTF-8, with U+FFFD for each that is no character
 abbrev pub characters : List ℕ → List ℕ
 characters front = flat_map (λ point. encode_utf8 (character_of point)) front
 
+-- the word for a text: `unicode` is Python 2's
 abbrev pub text_kind : TextForm → List ℕ
 text_kind text.Str = codes "str"
 text_kind text.Unicode = codes "unicode"
 
+-- a text as JSON: its first characters, and how many it has
 abbrev pub text_tree : TextForm → List ℕ → ℕ → Data
 text_tree form front length = object (
     member (codes "kind") (string (text_kind form)) (
@@ -130,6 +138,7 @@ hex_digit n = if nat_lt n 10 then 48 + n else 87 + n
 abbrev pub hex_text : List ℕ → List ℕ
 hex_text front = flat_map (λ byte. hex_digit (byte / 16) ∷ hex_digit (byte % 16) ∷ []) front
 
+-- bytes as JSON: the first in hexadecimal digits, and how many there are
 abbrev pub bytes_tree : BytesForm → List ℕ → ℕ → Data
 bytes_tree form front length = object (
     member (codes "hex") (string (hex_text front)) (
@@ -143,6 +152,7 @@ named_tree kind name addr = object (
     member (codes "kind") (string kind) (
     member (codes "name") (name_tree name) no_members)))
 
+-- a function as JSON, with its file and its first line
 abbrev pub function_tree : Option (List ℕ) → Option (List ℕ) → ℕ → ℕ → Data
 function_tree name file line addr = object (
     member (codes "address") (hex_tree addr) (

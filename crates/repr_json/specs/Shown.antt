@@ -33,6 +33,7 @@ abbrev pub kept_float : Option Data → Bool
 kept_float None = false
 kept_float (Some d) = has_float d
 
+-- no JSON that is kept, of any address, has one of JSON's floats
 abbrev pub HasNoFloat : ShownValues → Type 0
 HasNoFloat s = (a : ℕ) → kept_float (data_in s a) ≡ false
 

@@ -56,6 +56,7 @@ pub record IsPartTree (bits : ℕ) (d : Data) : Type 0 where
   pub reads_back : IsFloatText bits decimal
   pub is : d ≡ part_tree bits decimal
 
+-- the JSON of a complex number, of which each part reads back to its bits
 pub record IsComplexTree (real imaginary : ℕ) (d : Data) : Type 0 where
   pub left : Data
   pub left_is : IsPartTree real left

@@ -72,7 +72,7 @@ impl ShownValues {
         }
     }
 
-    /// Keeps the text of a value for an address. The one error is want of memory.
+    /// Keeps the text of a value for an address. The one error is out of memory.
     pub fn keep_text(&mut self, alloc: Global, addr: u64, value: &Repr) -> Result<(), AllocError>
         ensures { OnOk result (KeepsText addr (tree_of value.now) self.old self.new) }
     {
@@ -81,7 +81,7 @@ impl ShownValues {
         Ok(())
     }
 
-    /// Keeps the JSON of a value for an address. The one error is want of memory.
+    /// Keeps the JSON of a value for an address. The one error is out of memory.
     pub fn keep_json(&mut self, alloc: Global, addr: u64, value: &Repr) -> Result<(), AllocError>
         ensures { OnOk result (KeepsJson addr (tree_of value.now) self.old self.new) }
     {
@@ -90,7 +90,7 @@ impl ShownValues {
         Ok(())
     }
 
-    /// Keeps the name of the type of a value for an address, or that it has none. The one error is want of memory.
+    /// Keeps the name of the type of a value for an address, or that it has none. The one error is out of memory.
     pub fn keep_type(&mut self, addr: u64, name: Option<Text>) -> Result<(), AllocError>
         ensures { OnOk result (KeepsType addr name self.old self.new) }
     {

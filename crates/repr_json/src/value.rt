@@ -101,7 +101,7 @@ fn instance(
     instance_value(alloc, class, addr, pairs, left_out)
 }
 
-/// A value as JSON: an object whose `kind` says what it is, with its parts. The one error is want of memory.
+/// A value as JSON: an object whose `kind` says what it is, with its parts. The one error is out of memory.
 #[cycle(values)]
 pub fn repr_value(alloc: Global, value: &Repr) -> Result<Value, AllocError>
     ensures { IfOk result (λ own. IsJson (tree_of value.now) (view own)) }

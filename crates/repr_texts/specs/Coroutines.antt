@@ -1,5 +1,5 @@
--- Coroutines, generators and async generators, as `repr` has them (`gen_repr`, Objects/genobject.c) but for their names
--- in place of their qualified ones, and with how far each has come, which is this project's own.
+-- Coroutines, generators and async generators. The form is this project's own: the word, the name, the address, and how
+-- far each has come. `repr` has the qualified name and the word `object` (`gen_repr` and its like, Objects/genobject.c).
 use Rattle.std.specs.Prelude.{ℕ, Option, Some, None, List, [], ◌++◌, codes}
 use Rattle.py_reprs.specs.declared.coroutines.CoroutineForm.{CoroutineForm}
 use Rattle.py_reprs.specs.declared.coroutines.CoroutineForm.TheVariants as form
@@ -30,6 +30,7 @@ abbrev pub state_text : Option CoroutineState → List ℕ
 state_text None = []
 state_text (Some s) = codes ": " ++ state_word s
 
+-- a coroutine, a generator or an async generator: `<generator name at 0x..: suspended>`
 abbrev pub coroutine_text : CoroutineForm → Option (List ℕ) → Option CoroutineState → ℕ → List ℕ
 coroutine_text f name s addr =
     codes "<" ++ (form_text f ++ (own_name_text name ++ (address_text addr ++ (state_text s ++ codes ">"))))

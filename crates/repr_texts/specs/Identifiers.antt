@@ -5,6 +5,7 @@ use Rattle.std.specs.Prelude.{ℕ, ◌-◌, ◌==◌, ◌&&◌, ◌||◌, nat_le
 use Rattle.std.specs.List.{list_all}
 use Rattle.std.specs.Str.{is_utf8}
 
+-- whether a byte is a decimal digit of ASCII
 abbrev pub is_digit : ℕ → Bool
 is_digit b = nat_le 48 b && nat_le b 57
 
@@ -20,10 +21,12 @@ is_identifier bytes = not (is_digit (get_or bytes 0 48)) && list_all is_word_byt
 unfoldable pub inner : List ℕ → List ℕ
 inner bytes = take (length (drop 1 bytes) - 1) (drop 1 bytes)
 
+-- whether a text is an identifier in single quotes
 unfoldable pub is_quoted_identifier : List ℕ → Bool
 is_quoted_identifier bytes =
     get_or bytes 0 0 == 39 && (get_or bytes (length bytes - 1) 0 == 39 && is_identifier (inner bytes))
 
+-- the first bytes where they are UTF-8, and else the others
 unfoldable pub utf8_or : List ℕ → List ℕ → List ℕ
 utf8_or bytes other = if is_utf8 bytes then bytes else other
 

@@ -12,9 +12,11 @@ use Rattle.python_literals.specs.declared.quotes.Style.TheVariants.{Printable}
 abbrev pub is_name_character : ℕ → Bool
 is_name_character c = is_printable c && not (c == 32 || (c == 34 || c == 39))
 
+-- whether a name can't be taken for more than a name: it has characters, and each can't end it
 abbrev pub is_name : List ℕ → Bool
 is_name name = not (length name == 0) && list_all is_name_character name
 
+-- a name as it is, or in quotes where it could be taken for more
 abbrev pub name_known : List ℕ → List ℕ
 name_known name = if is_name name then encode_utf8_all name else quoted Printable name
 
@@ -28,5 +30,6 @@ abbrev pub quoted_name : Option (List ℕ) → List ℕ
 quoted_name None = codes "?"
 quoted_name (Some name) = quoted Printable name
 
+-- an address behind ` at 0x`, in lower-case hexadecimal digits
 abbrev pub address_text : ℕ → List ℕ
 address_text addr = codes " at 0x" ++ digits 16 false addr

@@ -33,10 +33,12 @@ opening items.Slice = codes "slice("
 opening items.Cell = codes "<cell: "
 opening items.Method = codes "<bound method "
 
+-- what stands between the items of a container; of a method, between its function and its object
 abbrev pub between : ItemsForm → List ℕ
 between items.Method = codes " of "
 between form = codes ", "
 
+-- what stands behind the items of a container
 abbrev pub closing : ItemsForm → List ℕ
 closing items.List = codes "]"
 closing items.Tuple = codes ")"
@@ -72,11 +74,12 @@ abbrev pub comma_text : ItemsForm → ℕ → ℕ → List ℕ
 comma_text items.Tuple shown left_out = if shown == 1 && left_out == 0 then codes "," else []
 comma_text form shown left_out = []
 
--- a container by the texts of its items
+-- what stands between a container's brackets: its items, how many more there are, and the comma of a tuple of one
 abbrev pub within_text : ItemsForm → List (List ℕ) → ℕ → List ℕ
 within_text form parts left_out = joined (between form) parts
     ++ (more_text (between form) (length parts) left_out ++ comma_text form (length parts) left_out)
 
+-- a container by the texts of its items, with what stands before and behind them
 abbrev pub full_text : ItemsForm → List (List ℕ) → ℕ → List ℕ
 full_text form parts left_out = opening form ++ (within_text form parts left_out ++ closing form)
 
@@ -86,13 +89,16 @@ is_set items.Set = true
 is_set items.FrozenSet = true
 is_set form = false
 
+-- whether a container is a set without items
 abbrev pub is_empty_set : ItemsForm → ℕ → ℕ → Bool
 is_empty_set form shown left_out = is_set form && (shown == 0 && left_out == 0)
 
+-- the word for an empty set: `set()` or `frozenset()`
 abbrev pub empty_text : ItemsForm → List ℕ
 empty_text items.FrozenSet = codes "frozenset()"
 empty_text form = codes "set()"
 
+-- a container by the texts of its items; an empty set by its own word
 unfoldable pub items_text : ItemsForm → List (List ℕ) → ℕ → List ℕ
 items_text form parts left_out =
     if is_empty_set form (length parts) left_out then empty_text form else full_text form parts left_out
@@ -101,6 +107,7 @@ items_text form parts left_out =
 abbrev pub pair_text : List ℕ → List ℕ → List ℕ
 pair_text key value = key ++ (codes ": " ++ value)
 
+-- a dict by the texts of its pairs, and how many more there are
 abbrev pub pairs_text : List (List ℕ) → ℕ → List ℕ
 pairs_text parts left_out =
     codes "{" ++ (joined (codes ", ") parts ++ (more_text (codes ", ") (length parts) left_out ++ codes "}"))
@@ -126,6 +133,7 @@ attributes_of [] values = []
 attributes_of (name ∷ names) [] = []
 attributes_of (name ∷ names) (value ∷ values) = attribute_text name value ∷ attributes_of names values
 
+-- an instance by its class, its address and the texts of its attributes, and how many more there are
 abbrev pub instance_text : Option (List ℕ) → ℕ → List (List ℕ) → ℕ → List ℕ
 instance_text class addr parts left_out = instance_opening class addr
     ++ (joined (codes ", ") parts ++ (more_text (codes ", ") (length parts) left_out ++ codes ">"))
@@ -187,6 +195,7 @@ pub record AddsFull (form : ItemsForm) (left_out : ℕ) (trees : Trees) (old new
   pub all : length parts ≡ count trees
   pub is : new ≡ old ++ full_text form parts left_out
 
+-- a container, or the word for an empty set, is added, by texts of its items
 pub record AddsItems (form : ItemsForm) (left_out : ℕ) (trees : Trees) (old new : List ℕ) : Type 0 where
   pub parts : List (List ℕ)
   pub each : WriteFirst trees parts

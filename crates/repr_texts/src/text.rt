@@ -126,7 +126,7 @@ fn is_empty_set(form: ItemsForm, shown: u64, left_out: u64) -> bool
 }
 
 /// Appends a value in the manner of Python's `repr`: specs/Writing.antt and Leaves.antt say where it departs. The one
-/// error is want of memory.
+/// error is out of memory.
 #[cycle(repr)]
 pub fn push_repr(alloc: Global, text: &mut String, value: &Repr) -> Result<(), AllocError>
     ensures { OnOk result (Adds (Writes (tree_of value.now)) (string_bytes text.old) (string_bytes text.new)) }

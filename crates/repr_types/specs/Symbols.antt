@@ -8,14 +8,17 @@ use Rattle.py_process.specs.Facts.{Known, symbol_known}
 use Rattle.py_reprs.specs.declared.kinds.ReprTypes.{ReprTypes}
 use Rattle.repr_types.specs.Found.{class_named, type_named}
 
+-- the symbol of `NotImplemented`
 unfoldable pub not_implemented : List ℕ
 not_implemented = codes "_Py_NotImplementedStruct"
 
+-- the addresses of None, Ellipsis and NotImplemented, by their symbols
 abbrev pub value_symbols : Known → List (Option ℕ)
 value_symbols k =
     symbol_known k (codes "_Py_NoneStruct") ∷ symbol_known k (codes "_Py_EllipsisObject")
     ∷ symbol_known k not_implemented ∷ []
 
+-- the addresses of the types of values, by their symbols
 abbrev pub type_symbols : Known → List (Option ℕ)
 type_symbols k =
     symbol_known k (codes "PyBool_Type") ∷ symbol_known k (codes "PyFloat_Type")
@@ -27,6 +30,7 @@ type_symbols k =
     ∷ symbol_known k (codes "PyModule_Type") ∷ symbol_known k (codes "PyCoro_Type")
     ∷ symbol_known k (codes "PyGen_Type") ∷ symbol_known k (codes "PyAsyncGen_Type") ∷ []
 
+-- the address of this number
 abbrev pub each_of : List (Option ℕ) → ℕ → Option ℕ
 each_of found number = get_or found number None
 

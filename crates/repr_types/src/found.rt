@@ -10,7 +10,7 @@ use py_reprs::ReprError;
 use std::alloc::Global;
 use type_places::{TypePlace, by_symbol, class_of};
 
-/// Nothing was found; want of memory is handed on.
+/// Nothing was found; out of memory is handed on.
 fn lost(error: ObjectError) -> Result<Option<u64>, ReprError>
     ensures { IsKnown error result }
 {

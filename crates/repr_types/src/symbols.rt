@@ -99,7 +99,7 @@ fn types_by(classes: &[Option<u64>], types: &[Option<u64>]) -> ReprTypes
 /// `_Py_EllipsisObject` and `_Py_NotImplementedStruct`; each other type is what its own symbol names, if a type stands
 /// there. One whose symbol no image has, or of which a word is not in memory, is none.
 ///
-/// The one error is want of memory. At most 35 reads.
+/// The one error is out of memory. At most 35 reads.
 pub fn find_repr_types<M: ContainsAddr, P: ProcessMemory>(
     alloc: Global,
     info: &PythonProcessInfo<M>,

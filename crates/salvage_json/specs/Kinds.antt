@@ -28,6 +28,7 @@ missing_tree addr len = object (
     member (codes "kind") (string (codes "unreadable")) (
     member (codes "length") (number (unsigned len)) no_members)))
 
+-- the end of a chain before a thread whose record names another interpreter, as JSON
 abbrev pub stray_tree : ℕ → Data
 stray_tree interpreter = object (
     member (codes "interpreter") (address_tree interpreter) (
@@ -40,6 +41,7 @@ end_tree chain.Cut = kind_tree (codes "cut")
 end_tree (chain.Unreadable addr len) = missing_tree addr len
 end_tree (chain.Stray interpreter) = stray_tree interpreter
 
+-- a lock that was read, as JSON: the id of the thread that holds it, 0 where none does
 abbrev pub holder_tree : ℕ → Data
 holder_tree holder = object (
     member (codes "holder") (number (unsigned holder)) (

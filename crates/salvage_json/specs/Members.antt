@@ -32,6 +32,7 @@ kept_tree None = null
 abbrev pub kind_word : (is_argument : Bool) → List ℕ
 kind_word is_argument = if is_argument then codes "argument" else codes "local"
 
+-- a local variable as JSON
 abbrev pub local_tree : ShownValues → LocalVariable → Data
 local_tree values l = object (
     member (codes "address") (address_tree l.addr) (
@@ -42,6 +43,7 @@ local_tree values l = object (
     member (codes "type") (text_tree (type_in values l.addr)) (
     member (codes "value") (kept_tree (data_in values l.addr)) no_members)))))))
 
+-- a frame's local variables as a JSON array
 abbrev pub locals_tree : ShownValues → List LocalVariable → Data
 locals_tree values locals = array (items_of (map (λ l. local_tree values l) locals))
 
@@ -50,6 +52,7 @@ abbrev pub shown_tree : ShownValues → Option (Vec LocalVariable Global) → Da
 shown_tree values (Some locals) = locals_tree values locals.items
 shown_tree values None = null
 
+-- a frame as JSON; its line is 0 where it isn't known
 abbrev pub frame_tree : ShownValues → Frame → Option StackError → Data
 frame_tree values f fault = object (
     member (codes "filename") (string (encode_utf8_all f.filename)) (
@@ -65,5 +68,6 @@ standing_tree values (standing.Member address why) = object (
     member (codes "address") (address_tree address) (
     member (codes "why") (why_tree why) no_members))
 
+-- a chain's members as a JSON array
 abbrev pub standings_tree : ShownValues → List Standing → Data
 standings_tree values standings = array (items_of (map (λ s. standing_tree values s) standings))

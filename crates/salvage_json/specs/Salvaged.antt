@@ -15,6 +15,7 @@ use Rattle.salvage_json.specs.Kinds.{address_tree, end_tree, lock_tree}
 use Rattle.salvage_json.specs.Threads.{threads_tree}
 use Rattle.repr_json.specs.declared.shown.ShownValues.{ShownValues}
 
+-- an interpreter with its threads as JSON
 abbrev pub interpreter_tree : ShownValues → Option Crash → List InterpreterNames → SalvagedInterpreter → Data
 interpreter_tree values crash names i = object (
     member (codes "address") (address_tree i.front.address) (
@@ -24,6 +25,7 @@ interpreter_tree values crash names i = object (
     i.front.threads.threads.items) (
     member (codes "threads_end") (end_tree i.front.threads.end) no_members)))))
 
+-- interpreters as JSON, each by itself, in order
 abbrev pub interpreter_trees : ShownValues → Option Crash → List InterpreterNames → List SalvagedInterpreter
     → List Data
 interpreter_trees values crash names is = map (λ i. interpreter_tree values crash names i) is
@@ -39,6 +41,7 @@ placed_trees values crash names is (Some i) = interpreter_trees values crash nam
 abbrev pub ordered_trees : ShownValues → Option Crash → List InterpreterNames → List SalvagedInterpreter → List Data
 ordered_trees values crash names is = placed_trees values crash names is (first_crashed crash is)
 
+-- a process's interpreters as a JSON array, the one first of which a thread got the signal
 abbrev pub interpreters_tree : ShownValues → Option Crash → List InterpreterNames → List SalvagedInterpreter → Data
 interpreters_tree values crash names is = array (items_of (ordered_trees values crash names is))
 
@@ -57,6 +60,7 @@ process_tree (Some process) = object (
     member (codes "arguments") (string (encode_utf8_all process.1)) (
     member (codes "pid") (number (of_integer process.0)) no_members))
 
+-- the number of the signal as JSON; null where there is none
 abbrev pub signal_tree : Option ℤ → Data
 signal_tree None = null
 signal_tree (Some signal) = number (of_integer signal)

@@ -16,6 +16,7 @@ use Rattle.salvage_json.specs.Kinds.{address_tree, end_tree}
 use Rattle.salvage_json.specs.Members.{standings_tree}
 use Rattle.repr_json.specs.declared.shown.ShownValues.{ShownValues}
 
+-- the system's id of a thread as JSON; null where there is none
 abbrev pub id_tree : Option ℕ → Data
 id_tree (Some id) = number (unsigned id)
 id_tree None = null
@@ -34,6 +35,7 @@ abbrev pub name_tree : Option (List ℕ) → Data
 name_tree (Some name) = string (encode_utf8_all name)
 name_tree None = null
 
+-- a thread with its frames as JSON
 abbrev pub thread_tree : ShownValues → LockState → Option Crash → List ThreadName → ThreadFront → Data
 thread_tree values lock crash names t = object (
     member (codes "address") (address_tree t.address) (
@@ -61,5 +63,6 @@ abbrev pub ordered_trees : ShownValues → LockState → Option Crash → List T
 ordered_trees values lock crash names threads =
     placed_trees values lock crash names threads (position (λ thread. is_crashed crash thread) threads)
 
+-- threads as a JSON array, the one first that got the signal, and then from the last to the first
 abbrev pub threads_tree : ShownValues → LockState → Option Crash → List ThreadName → List ThreadFront → Data
 threads_tree values lock crash names threads = array (items_of (ordered_trees values lock crash names threads))

@@ -103,7 +103,7 @@ fn add_ordered(
 /// address of its value, or null.
 ///
 /// The keys of an object stand in the order of their bytes; an address is a text in hexadecimal digits, and an end, a
-/// lock or a cause is an object with its kind. The one error is want of memory.
+/// lock or a cause is an object with its kind. The one error is out of memory.
 pub fn interpreters_value(
     alloc: Global,
     kept: &ShownValues,
@@ -119,7 +119,7 @@ pub fn interpreters_value(
 }
 
 /// What the search for interpreters looked at, where it ended before all was: how many addresses, and how many members
-/// of chains of threads; null where it looked at all. The one error is want of memory.
+/// of chains of threads; null where it looked at all. The one error is out of memory.
 pub fn ended_value(alloc: Global, looked: &Looked) -> Result<Value, AllocError>
     ensures { IfOk result (λ value. view value ≡ ended_tree looked.now) }
 {
@@ -134,7 +134,7 @@ pub fn ended_value(alloc: Global, looked: &Looked) -> Result<Value, AllocError>
 }
 
 /// The process that a core tells, by its id and its arguments: an object, or null where it tells none. The one error is
-/// want of memory.
+/// out of memory.
 pub fn process_value(alloc: Global, process: &Option<(i32, Text)>) -> Result<Value, AllocError>
     ensures { IfOk result (λ value. view value ≡ process_tree process.now) }
 {
@@ -148,7 +148,7 @@ pub fn process_value(alloc: Global, process: &Option<(i32, Text)>) -> Result<Val
     })
 }
 
-/// The signal that a core tells, or null where it tells none. The one error is want of memory.
+/// The signal that a core tells, or null where it tells none. The one error is out of memory.
 pub fn signal_value(alloc: Global, signal: Option<i16>) -> Result<Value, AllocError>
     ensures { IfOk result (λ value. view value ≡ signal_tree signal) }
 {

@@ -1,4 +1,4 @@
--- Two outcomes over the same contents have one status, want of memory aside; and over contents with which nothing is
+-- Two outcomes over the same contents have one status, out of memory aside; and over contents with which nothing is
 -- wrong no outcome is a cause.
 use Rattle.std.proofs.Common.{◌≡◌, ◌≢◌, ◌≤◌, ℕ, List, [], ◌∷◌, Ok, Err, refl, sym, ap, subst, ◌∙◌, arith}
 use Rattle.std.proofs.Common.{inl, inr}
@@ -49,7 +49,7 @@ use Rattle.salvage_report.specs.Texts.{shown_left}
 abbrev pub AgreeIn : (Outcome → Type 0) → Type 0
 AgreeIn Right = AgreeBy cause_status (λ n. n) Right
 
--- no cause is right but want of memory
+-- no cause is right but out of memory
 abbrev pub NoCause : (Outcome → Type 0) → Type 0
 NoCause Right = NoCauseBut cause_status (λ cause. ⊥) Right
 

@@ -1,5 +1,5 @@
 -- A core and its images have one process, by what is there or by the names of its files, or one first cause why there is
--- none, want of memory aside.
+-- none, out of memory aside.
 use Rattle.std.proofs.Common.{◌≡◌, ℕ, List, Ok, Err, inl, inr, refl, sym, ap, subst, true, false, ◌∙◌}
 use Rattle.std.specs.Prelude.{Option, Some}
 use Rattle.std.proofs.lemmas.Option.{same_Some}
@@ -23,7 +23,7 @@ use Rattle.core_stacks.specs.Named.{IsNamedProcess, NamesNone, NamesThis, Proces
 use Rattle.core_stacks.specs.Process.{OpenedProcess, ProcessIs}
 use Rattle.core_stacks.proofs.Opening.{process_agree}
 
--- what tells no version is no want of memory
+-- what tells no version is no out of memory
 untold_kept : (e : CoreError) → is_untold e ≡ true → IsKept {T = OpenedProcess} (Err e)
 untold_kept e is same = wrong (ap is_untold (sym (err_is e core.OutOfMemory same)) ∙ is)
   where

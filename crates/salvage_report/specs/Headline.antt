@@ -82,12 +82,14 @@ pub record HasSalvaged (s : Salvage) (told : Told) (old new : SinkSeen) : Type 0
 
 -- ---- the sections: each that is asked for is told, by the notes of the core
 
+-- the report tells how the signal came about, by the core's notes
 pub record SaysSignal (s : Salvage) (told : Told) (old new : SinkSeen) : Type 0 where
   pub has : HasSalvaged s told old new
   pub notes : List Noted
   pub are : AreNotesOfCore has.core notes
   pub is : has.left.told.signal ≡ Some (signal_told (own_id has.left.process) notes)
 
+-- the report tells each thread's registers, by the core's notes
 pub record SaysRegisters (s : Salvage) (told : Told) (old new : SinkSeen) : Type 0 where
   pub has : HasSalvaged s told old new
   pub notes : List Noted

@@ -23,6 +23,7 @@ use Rattle.core_stacks.specs.Process.{OpenedProcess}
 use Rattle.core_stacks.specs.declared.process.Process.{Process}
 use Rattle.salvage_report.specs.Pointers.{pointers_of}
 
+-- a version's major and minor
 abbrev pub release_of : Version → Release
 release_of v = record { major = v.major; minor = v.minor }
 
@@ -46,6 +47,7 @@ types_of k v = record {
 abbrev pub thread_place : ℕ → ThreadFront → ThreadPlace
 thread_place interpreter t = record { address = t.address; interpreter = interpreter }
 
+-- where the threads of an interpreter stand
 abbrev pub places_of : SalvagedInterpreter → List ThreadPlace
 places_of i = map (thread_place i.front.address) i.front.threads.threads.items
 
@@ -53,6 +55,7 @@ places_of i = map (thread_place i.front.address) i.front.threads.threads.items
 abbrev pub thread_places : List SalvagedInterpreter → List ThreadPlace
 thread_places is = flat_map places_of is
 
+-- what a process says of its layout, over its memory
 abbrev pub checked_by : Memory → Layout → Known → Version → List SalvagedInterpreter → List ℕ → Found CheckShown
 checked_by m l k v is pointers =
     check_at m l (types_of k v) (symbol_known k (codes "_PyRuntime")) (release_of v) pointers (thread_places is)
@@ -79,5 +82,6 @@ CheckIs false bytes checked told = told ≡ None
 CheckIs true bytes checked None = ⊥
 CheckIs true bytes checked (Some told) = CheckTold bytes checked told
 
+-- what a process says of its layout, where that is asked for
 abbrev pub check_of : Option LayoutCheck → Option CheckShown
 check_of told = option_map check_shown told

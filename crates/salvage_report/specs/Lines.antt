@@ -18,6 +18,7 @@ record_parts (records.Clash first second) =
     codes "records: tables " ∷ decimal first ∷ codes " and " ∷ decimal second ∷ codes " clash" ∷ []
 record_parts records.OutOfMemory = codes "out of memory" ∷ []
 
+-- the words of a cause
 abbrev pub cause_parts : Cause → List (List ℕ)
 cause_parts (Core error) = core_parts error
 cause_parts (Layouts error) = layout_parts error

@@ -36,10 +36,12 @@ MayTellRefused asks status old new = ((new ≡ old) × (AsksMissing asks → sta
 
 -- ---- as the code has it
 
+-- the arguments ask for the refused reads
 abbrev pub AsksFor : Result Asked ArgsError → Type 0
 AsksFor (Ok (asked.Salvage words)) = words.sections.missing ≡ true
 AsksFor _ = ⊥
 
+-- the run was stopped by a cause of status 1
 abbrev pub IsStoppedAtOne : Result (Vec ℕ Global) (Trouble Cause) → Type 0
 IsStoppedAtOne (Err (Caused cause)) = cause_status cause ≡ 1
 IsStoppedAtOne _ = ⊥

@@ -94,9 +94,11 @@ abbrev pub shown_or_none : List SalvagedInterpreter → Looked → List ℕ → 
 shown_or_none [] looked text = Err (NoInterpreter looked.addresses looked.members)
 shown_or_none (i ∷ is) looked text = Ok text
 
+-- the text of what is left, or that no interpreter is shown
 abbrev pub left_outcome : Salvage → Left → Outcome
 left_outcome s left = shown_or_none left.salvaged.interpreters.items left.salvaged.looked (shown_left s left)
 
+-- the outcome for an opened process
 abbrev pub IsLeftOf : Salvage → List RecordTable → List ℕ → Pushed → OpenedProcess → Outcome → Type 0
 IsLeftOf s ts bytes images o outcome = (left : Left) × IsLeft s ts bytes images o left × (outcome ≡ left_outcome s left)
 
@@ -124,6 +126,7 @@ IsOutcomeWith None s contents outcome = IsCoreOutcome s [] contents outcome
 IsOutcomeWith (Some text) s contents outcome =
     OutcomeThen (λ error. Records error) (AreRightFor text) (λ tables. IsCoreOutcome s tables contents) outcome
 
+-- the outcome over what the files hold, with a file of records or without one
 abbrev pub IsOutcomeBy : Option (List ℕ) → Salvage → List (List ℕ) → Outcome → Type 0
 IsOutcomeBy None s contents outcome = IsOutcomeWith None s contents outcome
 IsOutcomeBy (Some name) s (text ∷ contents) outcome = IsOutcomeWith (Some text) s contents outcome
@@ -135,6 +138,7 @@ IsOutcome s contents outcome = IsOutcomeBy s.records s contents outcome
 
 -- ---- contents with which nothing is wrong: the process can be opened, and an interpreter is shown
 
+-- the process opens, and some interpreter is shown
 pub record IsShowable (s : Salvage) (bytes : List ℕ) (images : Pushed) (layouts : List Layout) : Type 0 where
   pub opened : OpenedProcess
   pub is_opened : ProcessOrNamed bytes images layouts (Ok opened)
@@ -144,17 +148,20 @@ pub record IsShowable (s : Salvage) (bytes : List ℕ) (images : Pushed) (layout
   pub by : SearchesBy bytes segments pointers
   pub shown : (left_at s bytes opened crash segments pointers).interpreters ≢ []
 
+-- no cause applies to the core, the layouts and the images
 abbrev pub IsCoreFaultless : Salvage → List (List ℕ) → Type 0
 IsCoreFaultless s (bytes ∷ text ∷ images) = (layouts : List Layout) × IsRightFor text (Ok layouts)
     × IsShowable s bytes (images_read s.images images) layouts
 IsCoreFaultless s _ = ⊥
 
+-- no cause applies to the files, with a file of records or without one
 abbrev pub IsFaultlessBy : Option (List ℕ) → Salvage → List (List ℕ) → Type 0
 IsFaultlessBy None s contents = IsCoreFaultless s contents
 IsFaultlessBy (Some name) s (text ∷ contents) =
     (tables : List RecordTable) × AreRightFor text (Ok tables) × IsCoreFaultless s contents
 IsFaultlessBy (Some name) s [] = ⊥
 
+-- no cause applies to the files that the arguments name
 abbrev pub IsFaultless : Salvage → List (List ℕ) → Type 0
 IsFaultless s contents = IsFaultlessBy s.records s contents
 
@@ -165,7 +172,7 @@ abbrev pub records_status : RecordsError → ℕ
 records_status records.OutOfMemory = 5
 records_status _ = 6
 
--- want of memory has one status, wherever it came
+-- out of memory has one status, wherever it came
 abbrev pub cause_status : Cause → ℕ
 cause_status (Core error) = core_status error
 cause_status (Layouts error) = layouts_status error
@@ -173,6 +180,7 @@ cause_status (Records error) = records_status error
 cause_status (NoInterpreter addresses members) = 1
 cause_status OutOfMemory = 5
 
+-- the status of an outcome
 abbrev pub outcome_status : Outcome → ℕ
 outcome_status outcome = status_by cause_status outcome
 

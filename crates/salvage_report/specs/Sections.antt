@@ -28,9 +28,11 @@ if_asked false value = None
 abbrev pub own_id : Option (ℤ × List ℕ) → Option ℤ
 own_id process = option_map (λ (p : ℤ × List ℕ). p.0) process
 
+-- the registers of the threads, where they are asked for
 abbrev pub registers_shown : Option (Vec ThreadRegisters Global) → Option (List ThreadShown)
 registers_shown threads = option_map (λ (ts : Vec ThreadRegisters Global). map thread_shown ts.items) threads
 
+-- the refused reads, where they are asked for
 abbrev pub missing_shown : Option MissedBlocks → Option RefusedTold
 missing_shown missing = option_map (λ (m : MissedBlocks). blocks_told m) missing
 

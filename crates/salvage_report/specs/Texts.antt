@@ -60,6 +60,7 @@ abbrev pub shown_left : Salvage → Left → List ℕ
 shown_left s left =
     if s.json then left_json s.limit left else left_text s.core s.limit left
 
+-- the text of `--help`
 unfoldable pub help_text : List ℕ
 help_text = codes "pysalvage CORE --layouts FILE [--records FILE] [-n N] [-l].. [-j] [--signal] [--registers]\n"
     ++ (codes "          [--missing] [--check-layout] [--names] [--tasks] [--exceptions] [--waits]\n"
@@ -88,5 +89,6 @@ help_text = codes "pysalvage CORE --layouts FILE [--records FILE] [-n N] [-l].. 
     ++ (codes "--help          this text\n"
     ++ codes "--version       the version of the program\n"))))))))))))))))))))))))
 
+-- the text of `--version`
 abbrev pub program_version : List ℕ
 program_version = codes "pysalvage 1.0.0\n"

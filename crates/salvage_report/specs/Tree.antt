@@ -73,6 +73,7 @@ left_tree limit left = object (most_members limit left (with_left_out (values_le
 abbrev pub pretty_text : Data → List ℕ
 pretty_text d = pretty (json_tokens (outline d))
 
+-- the JSON of what is left
 abbrev pub left_json : (limit : ℕ) → Left → List ℕ
 left_json limit left = pretty_text (left_tree limit left) ++ codes "\n"
 
@@ -80,5 +81,6 @@ left_json limit left = pretty_text (left_tree limit left) ++ codes "\n"
 abbrev pub missing_tree : RefusedTold → Data
 missing_tree refused = object (member (codes "missing") (missed_tree refused) no_members)
 
+-- the JSON of the refused reads alone
 abbrev pub missing_json : RefusedTold → List ℕ
 missing_json refused = pretty_text (missing_tree refused) ++ codes "\n"

@@ -165,7 +165,7 @@ fn pretty(alloc: Global, value: &Value) -> Result<String, AllocError>
 
 /// All of it as one object, on lines, with a line feed at the end. The keys stand in the order of their bytes. The key
 /// of a section that isn't asked for is null. Of a native stack the first and the last `limit` frames are there. The
-/// one error is want of memory.
+/// one error is out of memory.
 pub(crate) fn left_json(alloc: Global, limit: usize, left: &Left) -> Result<String, AllocError>
     requires { HasNoFloat left.now.values }
     ensures { IfOk result (λ text. string_bytes text ≡ left_json limit left.now) }
@@ -185,7 +185,7 @@ fn refused_value(alloc: Global, misses: &Misses) -> Result<Value, AllocError>
     json!(in alloc; {"missing": missing})
 }
 
-/// Which reads were refused, as one object, on lines, with a line feed at the end. The one error is want of memory.
+/// Which reads were refused, as one object, on lines, with a line feed at the end. The one error is out of memory.
 pub(crate) fn missing_json(alloc: Global, misses: &Misses) -> Result<String, AllocError>
     ensures { IfOk result (λ text. string_bytes text ≡ missing_json (told_of misses.now)) }
 {

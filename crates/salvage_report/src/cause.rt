@@ -87,7 +87,7 @@ impl From<RecordsError> for Cause {
     }
 }
 
-/// A reader of fronts has no other error than want of memory.
+/// A reader of fronts has no other error than out of memory.
 impl From<StackError> for Cause {
     ghost use Rattle.salvage_report.specs.declared.cause.Cause.TheVariants.{OutOfMemory};
 

@@ -152,7 +152,7 @@ pub fn run<F: Files, S: Sink, E: Sink>(
     ensures missing { (s : Salvage) → words_asked (texts words.now) ≡ Some (salvages s) → s.sections.missing ≡ true
         → result ≡ 1 → TellsRefused (S.seen out.old) (S.seen out.new) }
 
-    // where the files tell, each cause has its status, want of memory aside
+    // where the files tell, each cause has its status, out of memory aside
     ensures only { (s : Salvage) (contents : List (List ℕ)) (cause : Why)
         → TellsContents (words_asked (texts words.now)) (F.seen files.old).told s contents
         → IsOutcome s contents (Err cause) → cause_status cause ≢ 5
@@ -160,7 +160,7 @@ pub fn run<F: Files, S: Sink, E: Sink>(
         → (result ≡ cause_status cause) ⊎ (result ≡ 5) }
 
     // where nothing is wrong with what they tell, an interpreter is shown, and no write fails, the text is written,
-    // want of memory aside
+    // out of memory aside
     ensures complete { (s : Salvage) (contents : List (List ℕ))
         → TellsContents (words_asked (texts words.now)) (F.seen files.old).told s contents
         → IsFaultless s contents

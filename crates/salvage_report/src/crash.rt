@@ -31,7 +31,7 @@ fn crash_by(machine: Machine, notes: &[Note<'_>]) -> Option<Crash>
     }
 }
 
-/// The thread that got the signal, by the first status record of a core. The one error is want of memory.
+/// The thread that got the signal, by the first status record of a core. The one error is out of memory.
 pub(crate) fn first_crash(alloc: Global, core: &CoreDump) -> Result<Option<Crash>, AllocError>
     ensures { IfOk result (CrashTold core.now) }
 {

@@ -95,7 +95,7 @@ fn thread_places(
     Ok(places)
 }
 
-/// What the process says of its layout. Reads that are refused are kept. The one error is want of memory.
+/// What the process says of its layout. Reads that are refused are kept. The one error is out of memory.
 fn checked(
     alloc: Global,
     process: &Process,

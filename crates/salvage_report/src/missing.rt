@@ -44,7 +44,7 @@ fn write_missing<S: Sink>(alloc: Global, misses: &Misses, out: &mut S) -> Result
 }
 
 /// Writes which reads were refused, as an object of its own, where the words ask for that and there is no text by a
-/// cause whose status is 1; else nothing. What comes of the run is what came, or want of memory, and then nothing is
+/// cause whose status is 1; else nothing. What comes of the run is what came, or out of memory, and then nothing is
 /// written.
 pub(crate) fn after_telling<'a, S: Sink>(
     alloc: Global,

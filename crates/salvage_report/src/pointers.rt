@@ -57,7 +57,7 @@ fn pointers_of(alloc: Global, machine: Machine, notes: &[Note<'_>]) -> Result<Ve
 }
 
 /// The thread pointers of the process of a core: of each status record of x86-64 that has its registers, in their
-/// order. The one error is want of memory.
+/// order. The one error is out of memory.
 pub(crate) fn thread_pointers(alloc: Global, core: &CoreDump) -> Result<Vec<u64>, AllocError>
     ensures { IfOk result (λ pointers. PointersTold core.now pointers.items) }
 {

@@ -31,7 +31,7 @@ pub(crate) fn read_records<'a, F: Files>(
     }
 }
 
-/// No table of records. The one error is want of memory.
+/// No table of records. The one error is out of memory.
 pub(crate) fn no_tables(alloc: Global) -> Result<RecordTables, Cause>
     ensures { MatchResult result (λ tables. tables ≡ []) (λ cause. cause ≡ Cause.OutOfMemory) }
 {

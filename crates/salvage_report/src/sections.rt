@@ -89,7 +89,7 @@ fn missing_section(
 }
 
 /// What is told in the sections that are asked for, by the notes of a core, what is left of its interpreters, and which
-/// reads were refused. The one error is want of memory.
+/// reads were refused. The one error is out of memory.
 pub(crate) fn tell_sections(
     alloc: Global,
     asked: Sections,

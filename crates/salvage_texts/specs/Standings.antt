@@ -32,10 +32,12 @@ abbrev pub kept_text : Option (List ℕ) → (none : List ℕ) → List ℕ
 kept_text (Some text) none = text
 kept_text None none = none
 
+-- the line of a local variable: its name and its value
 abbrev pub local_text : ShownValues → LocalVariable → List ℕ
 local_text values v = codes "        " ++ (escaped true v.name ++ (codes ": "
     ++ (kept_text (text_in values v.addr) (value_text v.repr) ++ codes "\n")))
 
+-- the lines of a frame's local variables
 abbrev pub locals_text : ShownValues → List LocalVariable → List ℕ
 locals_text values locals = concat (map (λ v. local_text values v) locals)
 
@@ -50,6 +52,7 @@ fault_text (stack.Unreadable addr len) = missing_text addr len
 fault_text (stack.LocalsLimit count) = codes "more than 65535"
 fault_text _ = codes "with a bad name or count"
 
+-- the line that says why a frame's locals can't be read; none where they can
 abbrev pub locals_fault : Option StackError → List ℕ
 locals_fault None = []
 locals_fault (Some fault) = codes "        ... locals " ++ (fault_text fault ++ codes "\n")
@@ -75,5 +78,6 @@ standing_text values (standing.Frame frame fault) =
     frame_line frame ++ (shown_locals values frame.locals ++ locals_fault fault)
 standing_text values (standing.Member address why) = member_line why
 
+-- the lines of a chain's members, in order
 abbrev pub standings_text : ShownValues → List Standing → List ℕ
 standings_text values standings = concat (map (λ s. standing_text values s) standings)

@@ -16,6 +16,7 @@ use Rattle.py_fronts.specs.Locks.{holds_lock}
 use Rattle.salvage_texts.specs.Standings.{standings_text}
 use Rattle.repr_json.specs.declared.shown.ShownValues.{ShownValues}
 
+-- a mark on a thread's line, where it has it
 abbrev pub mark_text : Bool → List ℕ → List ℕ
 mark_text is_marked mark = if is_marked then mark else []
 
@@ -35,6 +36,7 @@ abbrev pub frames_text : ShownValues → FramesFront → List ℕ
 frames_text values f = standings_text values f.first.items ++ (more_text f.between
     ++ (standings_text values f.last.items ++ frames_end_text f.end f.met))
 
+-- the lines of a thread: its own, and those of its frames
 abbrev pub thread_text : ShownValues → LockState → Option Crash → List ThreadName → ThreadFront → List ℕ
 thread_text values lock crash names t = thread_line lock crash names t ++ frames_text values t.frames
 

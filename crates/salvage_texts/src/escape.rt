@@ -42,7 +42,7 @@ fn characters(alloc: Global, text: &Text) -> Result<Vec<char>, AllocError>
 }
 
 /// Appends a name or a value, in which each control character stands as `\u{..}` with its code; and in a name each
-/// quote and backslash too. The one error is want of memory.
+/// quote and backslash too. The one error is out of memory.
 #[tactic(auto, unfolding(crate::specs::Escape::escaped))]
 pub fn push_escaped(
     alloc: Global,

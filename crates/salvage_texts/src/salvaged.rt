@@ -103,7 +103,7 @@ fn push_salvaged(
 /// A thread is marked where it holds the lock of its interpreter, and where it got the signal, and has the name that is
 /// told of its id in its interpreter, if one is. A local has the text that is kept for the address of its value, or a
 /// question mark. The first interpreter with such a thread stands first, and in it that thread; else interpreters stand
-/// in order, and the threads of each from the last to the first. The one error is want of memory.
+/// in order, and the threads of each from the last to the first. The one error is out of memory.
 pub fn salvaged_text(
     alloc: Global,
     values: &ShownValues,

@@ -144,7 +144,7 @@ fn push_member(text: &mut String, why: &ObjectError) -> Result<(), AllocError>
 }
 
 /// Appends the line of what stands for a member of a chain of frames: a frame's function, file and line, or why the
-/// member has no names. The one error is want of memory.
+/// member has no names. The one error is out of memory.
 pub fn push_standing_line(
     alloc: Global,
     text: &mut String,

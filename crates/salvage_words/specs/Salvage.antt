@@ -22,6 +22,7 @@ frames_rule = record (new_rule (codes "frames")) { short = Some 110; long = Some
 abbrev pub records_rule : Rule
 records_rule = record (new_rule (codes "records")) { long = Some (codes "records"); action = Some Set }
 
+-- the arguments of `pysalvage`, as clap takes them
 abbrev pub salvage_app : App
 salvage_app =
     with_rule (with_rule (with_rule (with_rule (with_rule (with_rule (with_rule (with_rule (with_rule (with_rule
@@ -40,6 +41,7 @@ taken_rows words = rows_taken salvage_app words
 
 -- ---- what they ask for
 
+-- how many frames are shown at each end, where it is 1 to 4096
 abbrev pub in_limits : ℕ → Option ℕ
 in_limits n = if nat_le 1 n && nat_le n 4096 then Some n else None
 
@@ -81,6 +83,7 @@ sections_of rows = record {
   heap = is_set (codes "heap") rows;
 }
 
+-- what some arguments ask for
 abbrev pub salvage_by : List Row → ℕ → List (List ℕ × List ℕ) → Salvage
 salvage_by rows limit images = record {
   core = option_value_of (codes "core") rows;
@@ -93,6 +96,7 @@ salvage_by rows limit images = record {
   images = images;
 }
 
+-- the same, where each image is a path and a file
 abbrev pub salvage_with : List Row → ℕ → Option Salvage
 salvage_with rows limit = option_map (λ images. salvage_by rows limit images) (images_of (image_words rows))
 
@@ -100,9 +104,11 @@ salvage_with rows limit = option_map (λ images. salvage_by rows limit images) (
 abbrev pub salvage_found : List Row → Option Salvage
 salvage_found rows = option_and_then (λ limit. salvage_with rows limit) (limit_of (first_of (codes "frames") rows))
 
+-- what the words ask for, where clap takes them
 abbrev pub salvage_words : List Text → Option Salvage
 salvage_words words = option_and_then salvage_found (taken_rows words)
 
+-- what the words ask for: the help, the version, or what is left of a process
 pub data Wanted : Type 0 where
   help : Wanted
   version : Wanted
@@ -115,6 +121,7 @@ is_alone word (name ∷ []) = false
 is_alone word (name ∷ only ∷ []) = bytes_eq only word
 is_alone word (name ∷ first ∷ second ∷ rest) = false
 
+-- what the words ask for; `--help` and `--version` stand alone
 abbrev pub words_asked : List Text → Option Wanted
 words_asked words =
     if is_alone (codes "--help") words then Some help

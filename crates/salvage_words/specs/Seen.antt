@@ -5,6 +5,7 @@ use Rattle.salvage_words.specs.declared.asked.Asked.{Asked}
 use Rattle.salvage_words.specs.declared.asked.Asked.TheVariants as asked
 use Rattle.salvage_words.specs.declared.asked.SalvageWords.{SalvageWords}
 
+-- what the arguments ask for, as contracts see it
 abbrev pub asked_salvage : SalvageWords → Salvage
 asked_salvage w = record {
   core = w.core;
@@ -17,6 +18,7 @@ asked_salvage w = record {
   images = w.images.items;
 }
 
+-- the same of all that may be asked for
 abbrev pub asked_by : Asked → Wanted
 asked_by asked.Help = help
 asked_by asked.Version = version

@@ -29,7 +29,7 @@ impl SharedTexts {
     }
 
     /// The same text, which shares its bytes with those of the same characters that were handed in before. It takes the
-    /// time of some comparisons, as many as halve the texts that were met. The one error is want of memory.
+    /// time of some comparisons, as many as halve the texts that were met. The one error is out of memory.
     pub fn share(&mut self, text: Text) -> Result<Text, AllocError>
         ensures { IfOk result (λ shared. shared ≡ text) }
     {

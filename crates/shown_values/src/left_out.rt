@@ -31,7 +31,7 @@ pub fn push_left_out(text: &mut String, values: &Option<LocalValues>) -> Result<
     write!(text, "... {count} more values are not shown\n")
 }
 
-/// Adds a key that says how many values are left out, where values are asked for. The one error is want of memory.
+/// Adds a key that says how many values are left out, where values are asked for. The one error is out of memory.
 pub fn put_left_out(
     alloc: Global,
     map: &mut Map<String, Value>,

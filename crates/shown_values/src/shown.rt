@@ -96,7 +96,7 @@ fn show_each(
 }
 
 /// The values of the locals of some interpreters, as they are shown, with the names of their types: none where none are
-/// asked for. The one error is want of memory.
+/// asked for. The one error is out of memory.
 pub fn shown_values(
     alloc: Global,
     json: bool,

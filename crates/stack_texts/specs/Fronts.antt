@@ -6,6 +6,7 @@ use Rattle.py_fronts.specs.declared.salvaged.SalvagedInterpreter.{SalvagedInterp
 use Rattle.py_fronts.specs.declared.standing.Standing.{Standing}
 use Rattle.py_fronts.specs.declared.thread_front.ThreadFront.{ThreadFront}
 
+-- the thread whose record stands at an address
 abbrev pub thread_in : List ThreadFront → ℕ → Option ThreadFront
 thread_in threads address = find (λ thread. nat_eq thread.address address) threads
 
@@ -13,13 +14,16 @@ thread_in threads address = find (λ thread. nat_eq thread.address address) thre
 abbrev pub has_thread : SalvagedInterpreter → ℕ → Bool
 has_thread i address = is_some (thread_in i.front.threads.threads.items address)
 
+-- the frames of a thread, where there is one
 abbrev pub frames_in : Option ThreadFront → Option FramesFront
 frames_in None = None
 frames_in (Some thread) = Some thread.frames
 
+-- the frames of the interpreter's thread whose record stands at an address
 abbrev pub front_in : SalvagedInterpreter → ℕ → Option FramesFront
 front_in i address = frames_in (thread_in i.front.threads.threads.items address)
 
+-- the same, where there is an interpreter
 abbrev pub front_of : Option SalvagedInterpreter → ℕ → Option FramesFront
 front_of None address = None
 front_of (Some i) address = front_in i address
@@ -32,6 +36,7 @@ front_at is address = front_of (find (λ i. has_thread i address) is) address
 abbrev pub standing_behind : FramesFront → ℕ → Option Standing
 standing_behind f n = if nat_lt n f.between then None else slice_get f.last.items (n - f.between)
 
+-- a frame among the first ones, else the one of this number among the last
 abbrev pub standing_or : FramesFront → ℕ → Option Standing → Option Standing
 standing_or f n (Some standing) = Some standing
 standing_or f n None = standing_behind f (n - length f.first.items)

@@ -12,6 +12,7 @@ use Rattle.stack_texts.specs.Items.{stack_text}
 abbrev pub one_text : List (List ℕ) → (limit : ℕ) → List SalvagedInterpreter → NativeShown → PairedStack → List ℕ
 one_text files limit is t p = thread_head t ++ stack_text files limit t (front_at is p.thread) p.items.items
 
+-- the text of a native thread: in one stack with Python's frames, where they were paired
 abbrev pub thread_text : List (List ℕ) → (limit : ℕ) → List SalvagedInterpreter → NativeShown → Option PairedStack
     → List ℕ
 thread_text files limit is t (Some p) = one_text files limit is t p
@@ -22,6 +23,7 @@ abbrev pub first_pair : List (Option PairedStack) → Option PairedStack
 first_pair [] = None
 first_pair (p ∷ ps) = p
 
+-- the pairs of the threads behind the first
 abbrev pub other_pairs : List (Option PairedStack) → List (Option PairedStack)
 other_pairs [] = []
 other_pairs (p ∷ ps) = ps
@@ -33,5 +35,6 @@ threads_text files limit is [] ps = []
 threads_text files limit is (t ∷ ts) ps =
     thread_text files limit is t (first_pair ps) ++ threads_text files limit is ts (other_pairs ps)
 
+-- the text of all native threads
 abbrev pub stacks_text : (limit : ℕ) → List SalvagedInterpreter → StacksShown → List (Option PairedStack) → List ℕ
 stacks_text limit is s ps = threads_text s.files limit is s.threads ps

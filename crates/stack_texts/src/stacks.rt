@@ -88,7 +88,7 @@ fn push_threads(
 /// ones end in ` [C]`. Of each stack the first and the last `limit` lines are shown. Python's frames are those of
 /// `interpreters`, by the address of the thread's record, without their locals.
 ///
-/// The one error is want of memory.
+/// The one error is out of memory.
 pub fn push_stacks(
     alloc: Global,
     text: &mut String,

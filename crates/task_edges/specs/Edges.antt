@@ -15,6 +15,7 @@ source_if b e = if nat_eq e.to b then Some e.from else None
 abbrev pub sources_of : List Edge → ℕ → List ℕ
 sources_of edges b = filter_map (source_if b) edges
 
+-- the items of a list, where there is one
 abbrev pub items_or_none : Option (Vec ℕ) → List ℕ
 items_or_none None = []
 items_or_none (Some v) = v.items

@@ -14,6 +14,7 @@ abbrev pub Leads : (ℕ → List ℕ) → ℕ → List ℕ → ℕ → Type 0
 Leads direct a [] b = a ≡ b
 Leads direct a (next ∷ via) b = Contains (direct next) a × Leads direct next via b
 
+-- an edge, or several one after the other, lead from one to the other
 abbrev pub LeadsTo : (ℕ → List ℕ) → ℕ → ℕ → Type 0
 LeadsTo direct a b = (via : List ℕ) × Leads direct a via b
 
@@ -37,6 +38,7 @@ pub record AddsTo (old addresses new : List ℕ) : Type 0 where
 abbrev pub Expands : (ℕ → List ℕ) → List ℕ → ℕ → List ℕ → List ℕ → Type 0
 Expands sources tasks at old new = AddsTo old (before sources tasks at) new
 
+-- the tasks that were found, where they are not too many
 abbrev pub keys_found : Option (BTreeSet ℕ) → Option (List ℕ)
 keys_found None = None
 keys_found (Some s) = Some s.keys
@@ -47,5 +49,6 @@ FindsBy direct limit target None = Passes direct limit target
 FindsBy direct limit target (Some list) =
     ((a : ℕ) → Contains list a ↔ LeadsTo direct a target) × (Passes direct limit target → ⊥)
 
+-- the tasks that lead to a target; none where they are more than a limit
 abbrev pub Finds : (ℕ → List ℕ) → List ℕ → ℕ → ℕ → Option (List ℕ) → Type 0
 Finds sources tasks limit target found = FindsBy (before sources tasks) limit target found

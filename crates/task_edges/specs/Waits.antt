@@ -8,6 +8,7 @@ use Rattle.task_edges.specs.declared.waits.Waits.TheVariants.{Tasks, TooMany}
 use Rattle.task_edges.specs.Edges.{sources_of}
 use Rattle.task_edges.specs.Leading.{LeadsTo, Passes, before}
 
+-- the task that waits
 abbrev pub task_of : Waiting → ℕ
 task_of w = w.task
 
@@ -28,6 +29,7 @@ abbrev pub WaitsFor : (ℕ → List ℕ) → List ℕ → ℕ → Option ℕ →
 WaitsFor direct tasks limit None answer = answer ≡ Some []
 WaitsFor direct tasks limit (Some waiter) answer = IsWaits direct tasks limit waiter answer
 
+-- what each of some tasks waits for, in order
 abbrev pub AllWait : (ℕ → List ℕ) → List ℕ → ℕ → List Waiting → List (Option (List ℕ)) → Type 0
 AllWait direct tasks limit waiting answers =
     AllZip (λ w answer. WaitsFor direct tasks limit w.waiter answer) waiting answers
@@ -37,6 +39,7 @@ abbrev pub AreWaits : List Edge → List Waiting → ℕ → List (Option (List 
 AreWaits edges waiting limit answers =
     AllWait (before (sources_of edges) (map task_of waiting)) (map task_of waiting) limit waiting answers
 
+-- the tasks that one waits for, where they are not too many
 abbrev pub answer_of : Waits → Option (List ℕ)
 answer_of (Tasks v) = Some v.items
 answer_of TooMany = None

@@ -124,7 +124,7 @@ fn all_waits(
 /// that alone where it is a task. They stand in the order of `waiting`. `TooMany` comes exactly where more than `limit`
 /// objects lead to the waiter. Where tasks wait in a ring, each waits for the next one.
 ///
-/// The one error is want of memory.
+/// The one error is out of memory.
 pub fn waits_of(
     alloc: Global,
     edges: &[Edge],

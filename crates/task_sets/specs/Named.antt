@@ -11,6 +11,7 @@ use Rattle.instance_dicts.specs.Instances.{instance_dict_at}
 use Rattle.task_sets.specs.declared.places.RootPlaces.{RootPlaces}
 use Rattle.task_sets.specs.Gathered.{gathered}
 
+-- an attribute without name and value
 abbrev pub no_attribute : Attribute
 no_attribute = record { name = 0; value = 0 }
 
@@ -20,9 +21,11 @@ value_if_named l m name a = do
   text ← text_at l m a.name
   Ok (if bytes_eq (encode_utf8_all text) name then Some a.value else None)
 
+-- the value of the attribute of this number, where it has this name
 abbrev pub named_by : Layout → Memory → List ℕ → List Attribute → ℕ → Found (Option ℕ)
 named_by l m name attributes number = value_if_named l m name (get_or attributes number no_attribute)
 
+-- the first of some addresses
 abbrev pub first_of : List ℕ → Option ℕ
 first_of [] = None
 first_of (x ∷ xs) = Some x

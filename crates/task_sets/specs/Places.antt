@@ -22,6 +22,7 @@ form_of t =
     else if is_some t.instance_split then ValuesAndDict
     else Pointer
 
+-- where the numbers of an instance stand, by the records of types
 abbrev pub instance_of : Layout → KlassRecord → HeapTypeRecord → InstanceFields
 instance_of l k h = record {
   basic_size = k.basicsize;
@@ -30,6 +31,7 @@ instance_of l k h = record {
   count = l.list.count;
 }
 
+-- where the numbers of a set and of weak references stand
 abbrev pub sets_of : SetRecord → SetEntryRecord → WeakrefRecord → SetPlaces
 sets_of s e w = record {
   mask = s.mask;
@@ -40,10 +42,12 @@ sets_of s e w = record {
   referent = w.object;
 }
 
+-- the same, where all three records are there
 abbrev pub sets_by : Option SetRecord → Option SetEntryRecord → Option WeakrefRecord → Option SetPlaces
 sets_by (Some s) (Some e) (Some w) = Some (sets_of s e w)
 sets_by _ _ _ = None
 
+-- where what registers tasks stands, where all records are there
 abbrev pub described_by : Layout → TypeRecords → (slots : ℕ) → Option SetPlaces → Option KlassRecord
     → Option HeapTypeRecord → Option RootPlaces
 described_by l t slots (Some sets) (Some k) (Some h) =

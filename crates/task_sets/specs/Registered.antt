@@ -16,6 +16,7 @@ use Rattle.task_sets.specs.Once.{firsts}
 use Rattle.task_sets.specs.Sets.{object_at}
 use Rattle.task_sets.specs.Tables.{tables_at}
 
+-- the value of an attribute
 abbrev pub value_of : Attribute → ℕ
 value_of a = a.value
 
@@ -39,6 +40,7 @@ members_at l p m t running = do
   current ← values_at l p m running
   Ok (joined all scheduled eager current)
 
+-- the objects that are registered, in the order of first mention
 unfoldable pub registered_at : Layout → RootPlaces → Memory → Roots → Found (List ℕ)
 registered_at l p m r = do
   tables ← tables_at l p m r

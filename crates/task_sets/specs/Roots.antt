@@ -16,6 +16,7 @@ entry_at l m slots name = do
   search ← find_from l m name slots slots.count 0 65536
   Ok search.found
 
+-- what registers the tasks of an interpreter
 abbrev pub roots : Option ℕ → Option ℕ → Option ℕ → Option ℕ → Option ℕ → Roots
 roots all scheduled eager current task =
     record { all = all; scheduled = scheduled; eager = eager; current = current; task = task }

@@ -19,6 +19,7 @@ unfoldable pub entries_of : ℕ → ℕ → Found Entries
 entries_of mask table = if nat_lt mask (2 ^ 20) then Ok (record { table = table; count = mask + 1 }) else Err
     ManyEntries
 
+-- the table of a set, and how many entries it has
 unfoldable pub entries_at : SetPlaces → Memory → ℕ → Found Entries
 entries_at p m a = do
   mask ← word_at m (a + p.mask)
@@ -34,6 +35,7 @@ table_at p m (Some a) = entries_at p m a
 unfoldable pub member_of : ℕ → ℕ → Option ℕ
 member_of key hash = if nat_eq key 0 || nat_eq hash (2 ^ 64 - 1) then None else Some key
 
+-- the object of a weak reference, else the reference itself
 abbrev pub referent_or : ℕ → Found ℕ → ℕ
 referent_or reference (Ok object) = object
 referent_or reference (Err f) = reference
@@ -54,6 +56,7 @@ by_kind p Weak m member = do
   object ← referent_at p m member
   Ok (Some object)
 
+-- the object that a member of a set leads to; none of an empty entry
 unfoldable pub led_at : SetPlaces → SetKind → Memory → Option ℕ → Found (Option ℕ)
 led_at p kind m None = Ok None
 led_at p kind m (Some member) = by_kind p kind m member

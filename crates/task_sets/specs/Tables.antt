@@ -27,6 +27,7 @@ few_of slots all scheduled eager =
     then Err ManyEntries
     else Ok (record { all = all; scheduled = scheduled; eager = eager })
 
+-- the tables of the three sets, where they are small enough together
 unfoldable pub read_tables_at : RootPlaces → Memory → Option ℕ → Option ℕ → Option ℕ → Found Tables
 read_tables_at p m all scheduled eager = do
   first ← table_at p.sets m all
@@ -34,6 +35,7 @@ read_tables_at p m all scheduled eager = do
   third ← table_at p.sets m eager
   few_of p.slots first second third
 
+-- the tables of the sets that register tasks
 unfoldable pub tables_at : Layout → RootPlaces → Memory → Roots → Found Tables
 tables_at l p m r = do
   all ← data_at l p m r.all

@@ -120,7 +120,7 @@ fn read_members<P: ProcessMemory>(
 ///
 /// The first fault of a set, a dict or a `WeakSet` is the answer: `Unreadable`, a dict that is none, a name that is no
 /// text, or `Entries` where a set has more than 2^20 entries, or all sets together have more, or more than the places'
-/// `slots`. A weak reference that is not in memory stands for itself. Else it is want of memory. At most 3309595 reads:
+/// `slots`. A weak reference that is not in memory stands for itself. Else it is out of memory. At most 3309595 reads:
 /// 3 for each entry of the sets, 2 for each slot of the dicts.
 pub fn read_registered<P: ProcessMemory>(
     alloc: Global,

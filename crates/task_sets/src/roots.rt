@@ -100,7 +100,7 @@ fn read_module<P: ProcessMemory>(
 ///
 /// `Entries` comes where 65536 slots of a dict were looked at for a name, and there is another. `Object` has the first
 /// fault of what is read: a part that is not in memory, a dict that is none, or a key met in a search that is no text.
-/// Else it is want of memory. At most 1572871 reads: 2 for a dict, 4 for each slot that is looked at.
+/// Else it is out of memory. At most 1572871 reads: 2 for a dict, 4 for each slot that is looked at.
 pub fn read_roots<P: ProcessMemory>(
     alloc: Global,
     process: &mut P,

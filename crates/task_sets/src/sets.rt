@@ -89,7 +89,7 @@ fn member_of(key: u64, hash: u64) -> Option<u64>
     Some(key)
 }
 
-/// A weak reference that is not in memory stands for itself; want of memory is handed on.
+/// A weak reference that is not in memory stands for itself; out of memory is handed on.
 fn unread(reference: u64, error: ReadFault) -> Result<u64, NamesError>
     ensures { IsUnread reference error result }
 {

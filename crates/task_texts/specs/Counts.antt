@@ -6,6 +6,7 @@ use Rattle.py_tasks.specs.Shown.{EntryShown, condition_of}
 use Rattle.py_tasks.specs.Shown.EntryShown.{TaskEntry, LostEntry, OtherEntry}
 use Rattle.task_texts.specs.declared.counts.Counts.{Counts}
 
+-- whether both are the same condition
 abbrev pub is_condition : Condition → Condition → Bool
 is_condition Done Done = true
 is_condition Running Running = true
@@ -20,6 +21,7 @@ does sought (TaskEntry t) = is_condition (condition_of t) sought
 does sought (LostEntry a f) = false
 does sought (OtherEntry a class) = false
 
+-- how many tasks do this, of those of which all is told
 abbrev pub number_of : Condition → List EntryShown → ℕ
 number_of sought entries = count_by (does sought) entries
 
@@ -29,9 +31,11 @@ does_not shunned (TaskEntry t) = not (is_condition (condition_of t) shunned)
 does_not shunned (LostEntry a f) = false
 does_not shunned (OtherEntry a class) = false
 
+-- how many tasks do something else, of those of which all is told
 abbrev pub number_without : Condition → List EntryShown → ℕ
 number_without shunned entries = count_by (does_not shunned) entries
 
+-- how many of these tasks are pending, and how many of them do what
 abbrev pub counts_of : List EntryShown → Counts
 counts_of entries = record {
   pending = number_without Done entries;

@@ -13,6 +13,7 @@ use Rattle.py_tasks.specs.declared.task.Waiter.{Waiter}
 use Rattle.py_tasks.specs.Shown.{TaskShown, condition_of}
 use Rattle.task_texts.specs.Members.{name_text}
 
+-- a task's name in quotes, with quotes, backslashes and control characters escaped
 abbrev pub quoted_text : List ℕ → List ℕ
 quoted_text name = codes "\"" ++ (escaped true name ++ codes "\"")
 
@@ -22,14 +23,17 @@ own_name_text None a = codes "0x" ++ digits 16 false a
 own_name_text (Some (Text name)) a = quoted_text name
 own_name_text (Some (Number n)) a = codes "\"Task-" ++ (decimal n ++ codes "\"")
 
+-- that a task runs, and in which thread, where that is known
 abbrev pub thread_text : Option ℕ → List ℕ
 thread_text None = codes "running"
 thread_text (Some id) = codes "running in thread 0x" ++ digits 16 true id
 
+-- the class of what a task waits for; that it is ready where it waits for nothing
 abbrev pub waiter_text : Option Waiter → List ℕ
 waiter_text None = codes "ready"
 waiter_text (Some w) = codes "waits for " ++ name_text w.class
 
+-- what a task in this condition does
 abbrev pub does_text : Condition → Option ℕ → Option Waiter → List ℕ
 does_text Done thread w = codes "done"
 does_text Running thread w = thread_text thread
@@ -41,13 +45,16 @@ does_text Waiting thread w = waiter_text w
 abbrev pub condition_text : TaskShown → List ℕ
 condition_text t = does_text (condition_of t) t.thread_id t.waiter
 
+-- that a task is to be cancelled, where it is
 abbrev pub cancel_text : Bool → List ℕ
 cancel_text must_cancel = if must_cancel then codes ", to be cancelled" else []
 
+-- the first line of a task: its name, what it does, and whether it is to be cancelled
 abbrev pub head_text : TaskShown → List ℕ
 head_text t = codes "Task " ++ (own_name_text t.name t.address ++ (codes " (" ++ (condition_text t
     ++ (cancel_text t.must_cancel ++ codes ")\n"))))
 
+-- why something of tasks is not told
 abbrev pub fault_text : TasksFault → List ℕ
 fault_text (Unreadable a n) = missing_text a n
 fault_text TooMany = codes "there are more than are looked at"

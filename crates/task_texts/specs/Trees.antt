@@ -27,12 +27,15 @@ use Rattle.task_texts.specs.declared.told.InterpreterTasks.{InterpreterTasks}
 abbrev pub address_text : ℕ → List ℕ
 address_text a = codes "0x" ++ digits 16 false a
 
+-- the JSON of an address
 abbrev pub address_tree : ℕ → Data
 address_tree a = string (address_text a)
 
+-- the JSON of a word
 abbrev pub word_tree : List ℕ → Data
 word_tree word = string word
 
+-- the JSON of a text; null where there is none
 abbrev pub text_tree : Option (List ℕ) → Data
 text_tree None = null
 text_tree (Some text) = string (encode_utf8_all text)
@@ -41,15 +44,18 @@ text_tree (Some text) = string (encode_utf8_all text)
 abbrev pub numbered_tree : ℕ → Data
 numbered_tree n = string (codes "Task-" ++ decimal n)
 
+-- the JSON of a task's name; null where it isn't known
 abbrev pub name_tree : Option TaskName → Data
 name_tree None = null
 name_tree (Some (Text name)) = string (encode_utf8_all name)
 name_tree (Some (Number n)) = numbered_tree n
 
+-- the JSON of a future's state; null where it isn't known
 abbrev pub state_tree : Option TaskState → Data
 state_tree None = null
 state_tree (Some s) = string (state_word s)
 
+-- the JSON of what a task waits for; null where it waits for nothing
 abbrev pub waiter_tree : Option Waiter → Data
 waiter_tree None = null
 waiter_tree (Some w) = object (
@@ -57,39 +63,47 @@ waiter_tree (Some w) = object (
     member (codes "state") (state_tree w.state) (
     member (codes "type") (text_tree w.class) no_members)))
 
+-- the JSON of a coroutine's frame
 abbrev pub frame_tree : CoroutineFrame → Data
 frame_tree f = object (
     member (codes "filename") (text_tree f.filename) (
     member (codes "line") (number (unsigned (shown_line f.line))) (
     member (codes "name") (text_tree f.function) no_members)))
 
+-- the JSON of a member's frame; null where none is told
 abbrev pub own_frame_tree : Option CoroutineFrame → Data
 own_frame_tree None = null
 own_frame_tree (Some f) = frame_tree f
 
+-- the JSON of a member of a chain
 abbrev pub member_tree : Member → Data
 member_tree m = object (
     member (codes "address") (string (address_text m.address)) (
     member (codes "frame") (own_frame_tree m.frame) (
     member (codes "kind") (string (kind_word m.kind)) no_members)))
 
+-- the JSON of a chain's members, in order
 abbrev pub members_tree : List Member → Data
 members_tree members = array (items_of (map (λ m. member_tree m) members))
 
+-- the JSON of what is told by its kind alone
 abbrev pub kind_tree : List ℕ → Data
 kind_tree kind = object (member (codes "kind") (string kind) no_members)
 
+-- the JSON of an end by its kind and the address at which it is
 abbrev pub end_at : List ℕ → ℕ → Data
 end_at kind a = object (
     member (codes "address") (string (address_text a)) (
     member (codes "kind") (string kind) no_members))
 
+-- the JSON of bytes that are not in memory, by their address and their number
 abbrev pub missing_tree : ℕ → ℕ → Data
 missing_tree a n = object (
     member (codes "address") (string (address_text a)) (
     member (codes "kind") (string (codes "unreadable")) (
     member (codes "length") (number (unsigned n)) no_members)))
 
+-- the JSON of why a chain stops
 abbrev pub stop_tree : Stop → Data
 stop_tree (stop.Future a) = end_at (codes "future") a
 stop_tree stop.Yielding = kind_tree (codes "yield")
@@ -100,16 +114,19 @@ stop_tree stop.NoTop = kind_tree (codes "not stored")
 stop_tree (stop.Other a class) = end_at (codes "object") a
 stop_tree (stop.Unreadable a n) = missing_tree a n
 
+-- the JSON of how a chain ends
 abbrev pub end_tree : AwaitEnd → Data
 end_tree (Stops why) = stop_tree why
 end_tree (Cycle a) = end_at (codes "cycle") a
 end_tree (Cut a) = end_at (codes "cut") a
 
+-- the JSON of a chain: how it ends, and its members
 abbrev pub chain_tree : ChainShown → Data
 chain_tree c = object (
     member (codes "end") (end_tree c.end) (
     member (codes "members") (members_tree c.members) no_members))
 
+-- the JSON of a thread's id; null where it isn't known
 abbrev pub thread_tree : Option ℕ → Data
 thread_tree None = null
 thread_tree (Some id) = number (unsigned id)
@@ -123,6 +140,7 @@ first_members t =
     member (codes "kind") (word_tree (codes "task")) (
     member (codes "loop") (address_tree t.event_loop) no_members))))
 
+-- the JSON of a task
 abbrev pub task_tree : TaskShown → Data
 task_tree t = object (
     member (codes "address") (address_tree t.address) (
@@ -136,36 +154,43 @@ task_tree t = object (
     member (codes "thread_id") (thread_tree t.thread_id) (
     member (codes "waiter") (waiter_tree t.waiter) no_members))))))))))
 
+-- the JSON of why something of tasks is not told
 abbrev pub fault_tree : TasksFault → Data
 fault_tree (Unreadable a n) = missing_tree a n
 fault_tree TooMany = kind_tree (codes "too many")
 fault_tree Malformed = kind_tree (codes "malformed")
 
+-- the JSON of a task of which something can't be read
 abbrev pub lost_tree : ℕ → TasksFault → Data
 lost_tree a f = object (
     member (codes "address") (string (address_text a)) (
     member (codes "fault") (fault_tree f) (
     member (codes "kind") (string (codes "lost")) no_members)))
 
+-- the JSON of a registered object that is no task
 abbrev pub other_tree : ℕ → Option (List ℕ) → Data
 other_tree a class = object (
     member (codes "address") (string (address_text a)) (
     member (codes "kind") (string (codes "other")) (
     member (codes "type") (text_tree class) no_members)))
 
+-- the JSON of a registered object
 abbrev pub entry_tree : EntryShown → Data
 entry_tree (TaskEntry t) = task_tree t
 entry_tree (LostEntry a f) = lost_tree a f
 entry_tree (OtherEntry a class) = other_tree a class
 
+-- the JSON of some registered objects, in order
 abbrev pub entry_trees : List EntryShown → Data
 entry_trees entries = array (items_of (map (λ e. entry_tree e) entries))
 
+-- the JSON of the tasks of an interpreter that were read
 abbrev pub entries_tree : List EntryShown → Data
 entries_tree entries = object (
     member (codes "entries") (entry_trees entries) (
     member (codes "kind") (string (codes "read")) no_members))
 
+-- the JSON of tasks that are not told, since their size is another one
 abbrev pub resized_tree : ℕ → Data
 resized_tree size = object (
     member (codes "kind") (string (codes "another size")) (
@@ -187,6 +212,7 @@ frameworks_tree (Some f) = object (
     member (codes "greenlet") (boolean f.greenlet) (
     member (codes "trio") (boolean f.trio) no_members)))
 
+-- the JSON of an interpreter: its tasks, and which other frameworks it has
 abbrev pub interpreter_tree : InterpreterTasks → Data
 interpreter_tree i = object (
     member (codes "frameworks") (frameworks_tree i.frameworks) (

@@ -416,7 +416,7 @@ fn push_each(
 /// that says how its chain breaks off, where it does, and one for each frame of its chain, the innermost first. A task of
 /// which something is not in memory has one line that says so, and so has an object that is registered and no task. Where
 /// no tasks are told, one line says why. Of each other framework that an interpreter has one line says that its tasks are
-/// not read. The one error is want of memory.
+/// not read. The one error is out of memory.
 pub fn push_tasks(
     alloc: Global,
     text: &mut String,

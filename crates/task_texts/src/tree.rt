@@ -381,7 +381,7 @@ fn interpreter_value(alloc: Global, told: &InterpreterTasks) -> Result<Value, Al
 /// An entry is a `task`, one that is `lost`, with its `fault`, or an `other` object. A task has its `address`, its `name`
 /// or null, its `state` and its `condition`, whether it `must_cancel`, its `loop`, the `thread_id` of one that runs or
 /// null, the `waiter` or null, and its `chain`: the `members`, the innermost first, each with its `kind` and its `frame`
-/// or null, and the `end`. The keys of an object stand in the order of their bytes. The one error is want of memory.
+/// or null, and the `end`. The keys of an object stand in the order of their bytes. The one error is out of memory.
 pub fn tasks_value(alloc: Global, tasks: &[InterpreterTasks]) -> Result<Value, AllocError>
     ensures { IfOk result (λ value. view value ≡ all_tasks_tree tasks.now) }
 {

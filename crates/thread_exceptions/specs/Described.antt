@@ -30,6 +30,7 @@ abbrev pub group_of : Layout → Option ExceptionGroupRecord → Option GroupPla
 group_of l None = None
 group_of l (Some at) = Some (record { members = at.excs; count = l.tuple.count; items = l.tuple.at })
 
+-- where an exception has its fields, where that is described (`PyBaseExceptionObject`)
 abbrev pub exception_of : Option ExceptionRecord → Option ExceptionPlaces
 exception_of None = None
 exception_of (Some at) = Some (record {
@@ -51,6 +52,7 @@ pub record Needed : Type 0 where
   pub inside : GeneratorHandledRecord
   pub exception : ExceptionPlaces
 
+-- what is needed of the groups, where all of them are described
 abbrev pub needed_by : Option KlassRecord → Option RaisedPlaces → Option HandledRecord → Option ItemRecord
     → Option GeneratorHandledRecord → Option ExceptionPlaces → Option Needed
 needed_by (Some klass) (Some raised) (Some handled) (Some item) (Some inside) (Some exception) = Some (record {
@@ -68,10 +70,12 @@ needed_by (Some klass) (Some raised) (Some handled) None inside exception = None
 needed_by (Some klass) (Some raised) (Some handled) (Some item) None exception = None
 needed_by (Some klass) (Some raised) (Some handled) (Some item) (Some inside) None = None
 
+-- what is needed of a version's records, where all of it is described
 abbrev pub needed_of : Records → Option Needed
 needed_of r = needed_by r.types.klass (raised_by r.exceptions.raised r.exceptions.raised_parts) r.exceptions.handled
     r.exceptions.item r.coroutines.generator_handled (exception_of r.exceptions.exception)
 
+-- where the parts of threads, items and exceptions stand, where what is needed is described
 abbrev pub places_by : Layout → Option ExceptionGroupRecord → Option Needed → Option Places
 places_by l group None = None
 places_by l group (Some n) = Some (record {

@@ -12,6 +12,7 @@ pub record Met : Type 0 where
   pub addr : ℕ
   pub what : What
 
+-- objects that were met, in order
 abbrev pub Mets : Type 0
 Mets = List Met
 
@@ -24,6 +25,7 @@ unfoldable pub gather : ℕ → List ℕ → List ℕ → List ℕ
 gather limit found [] = found
 gather limit found (a ∷ more) = gather limit (add_one limit found a) more
 
+-- the addresses that a met object leads to
 abbrev pub met_leads : Met → List ℕ
 met_leads x = leads x.what
 
@@ -31,9 +33,11 @@ met_leads x = leads x.what
 abbrev pub found_by : ℕ → List ℕ → List Met → List ℕ
 found_by limit roots all = gather limit [] (roots ++ concat (map (λ x. met_leads x) all))
 
+-- the object at an address as a met one, with what it is
 abbrev pub met_at : (ℕ → What) → ℕ → Met
 met_at what a = record { addr = a; what = what a }
 
+-- the address of a met object
 abbrev pub addr_of : Met → ℕ
 addr_of x = x.addr
 
@@ -48,8 +52,10 @@ pub record AreMet (what : ℕ → What) (limit : ℕ) (roots : List ℕ) (all : 
 
 -- ---- as they are read
 
+-- a set has exactly the addresses that were found
 abbrev pub AreSame : List ℕ → List ℕ → Type 0
 AreSame set found = (a : ℕ) → Contains set a ↔ Contains found a
 
+-- a met object, as the code has it
 abbrev pub met_of : read.Met → Met
 met_of x = record { addr = x.addr; what = what_of x.what }

@@ -19,6 +19,7 @@ pub data What : Type 0 where
   Other : What
   Lost : Fault → What
 
+-- whether the flags of a type say that its objects are exceptions (bit 30, `Py_TPFLAGS_BASE_EXC_SUBCLASS`)
 unfoldable pub is_exception : ℕ → Bool
 is_exception flags = nat_eq (flags / 2 ^ 30 % 2) 1
 
@@ -34,6 +35,7 @@ parts_in at class bytes = record {
   suppress_context = not (nat_eq (u8_in bytes at.suppress_context) 0);
 }
 
+-- what the record at an address says, if its type is one of exceptions
 abbrev pub parts_if : Places → Memory → ℕ → ℕ → Bool → Found (Option Parts)
 parts_if p m a class false = Ok None
 parts_if p m a class true = do
@@ -47,6 +49,7 @@ parts_at p m a = do
   flags ← word_at m (class + p.flags)
   parts_if p m a class (is_exception flags)
 
+-- what stands at an address, by its record: an exception with its members, another object, or a lost one
 abbrev pub what_by : Places → Memory → ℕ → Found (Option Parts) → What
 what_by p m a (Ok (Some parts)) = Exception parts (members_at p m a parts.class)
 what_by p m a (Ok None) = Other
@@ -62,6 +65,7 @@ what_at p m a = what_by p m a (parts_at p m a)
 abbrev pub context_of : Parts → List ℕ
 context_of parts = if parts.suppress_context then [] else parts.context ∷ []
 
+-- the addresses of a group's members that are told; none of what is no group or is lost
 abbrev pub members_in : Members → List ℕ
 members_in Members.NoGroup = []
 members_in (Members.Group members left_out) = members
@@ -79,6 +83,7 @@ leads (Lost f) = []
 
 -- ---- as they are read
 
+-- what stands at an address, as the code has it
 abbrev pub what_of : read.What → What
 what_of (reads.Exception parts members) = Exception parts (members_of members)
 what_of reads.Other = Other

@@ -35,6 +35,7 @@ is_group_named name = bytes_eq name (codes "BaseExceptionGroup" ++ 0 ∷ [])
 abbrev pub is_group_type : ℕ → List ℕ → Bool
 is_group_type flags name = is_builtin flags && is_group_named name
 
+-- whether the type at an address is the one that all groups are based on
 unfoldable pub group_class_at : Places → Memory → ℕ → Found Bool
 group_class_at p m class = do
   flags ← word_at m (class + p.flags)
@@ -42,6 +43,7 @@ group_class_at p m class = do
   name ← record_at m at 19
   Ok (is_group_type flags name)
 
+-- whether it holds; not where it can't be read
 abbrev pub known : Found Bool → Bool
 known (Ok is) = is
 known (Err f) = false
@@ -68,21 +70,26 @@ row_at p m a = do
   count ← word_at m (tuple + p.count)
   Ok (record { first = tuple + p.items; count = count })
 
+-- a group of so many members, of which the bytes of the first 4096 addresses were read
 abbrev pub group_by : ℕ → Found (List ℕ) → Members
 group_by count (Ok bytes) = Group (words_in (min count 4096) bytes 0) (count - min count 4096)
 group_by count (Err f) = Lost f
 
+-- the members of a group, by where their addresses stand
 abbrev pub listed_at : Memory → Row → Members
 listed_at m row = group_by row.count (record_at m row.first (8 * min row.count 4096))
 
+-- the members of a group; lost where its tuple can't be read
 abbrev pub told_members : Found Row → Memory → Members
 told_members (Ok row) m = listed_at m row
 told_members (Err f) m = Lost f
 
+-- the members of an exception, if it is a group
 abbrev pub members_if : GroupPlaces → Bool → Memory → ℕ → Members
 members_if group false m a = NoGroup
 members_if group true m a = told_members (row_at group m a) m
 
+-- the same, where the version has groups
 abbrev pub members_by : Option GroupPlaces → Bool → Memory → ℕ → Members
 members_by None is m a = NoGroup
 members_by (Some group) is m a = members_if group is m a
@@ -93,6 +100,7 @@ members_at p m a class = members_by p.group (is_group_at p m class) m a
 
 -- ---- as they are read
 
+-- the members of an exception, as the code has them
 abbrev pub members_of : read.Members → Members
 members_of reads.NoGroup = NoGroup
 members_of (reads.Group g) = Group g.members.items g.left_out

@@ -22,6 +22,7 @@ pub data End : Type 0 where
   Cycle : (address : ℕ) → End
   Cut : (address : ℕ) → End
 
+-- the addresses of a chain's records, and how it ends
 pub record Chain : Type 0 where
   pub members : List ℕ
   pub end : End
@@ -59,17 +60,21 @@ pub record IsLinks (turn : ℕ → Turn) (limit head : ℕ) (chain : Chain) : Ty
 
 -- ---- the same, as it is read
 
+-- whether an address was met before
 abbrev pub has : List ℕ → ℕ → Bool
 has met a = list_any (λ x. nat_eq x a) met
 
+-- a chain with these records before its own
 abbrev pub behind : List ℕ → Chain → Chain
 behind xs c = record { members = xs ++ c.members; end = c.end }
 
+-- the chain from an address on, by what stands there and what follows
 abbrev pub by_turn : ℕ → Turn → (ℕ → Chain) → Chain
 by_turn a (To n) rest = behind (a ∷ []) (rest n)
 by_turn a (Last why) rest = record { members = a ∷ []; end = Stops why }
 by_turn a (Before why) rest = record { members = []; end = Stops why }
 
+-- a chain that ends here where this address was met before; else the one that goes on
 abbrev pub unless_met : Bool → ℕ → Chain → Chain
 unless_met true a chain = record { members = []; end = Cycle a }
 unless_met false a chain = chain

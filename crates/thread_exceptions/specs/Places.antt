@@ -14,5 +14,6 @@ pub record IsSoundException (at : ExceptionPlaces) : Type 0 where
   pub cause : at.cause + 8 ≤ at.size
   pub suppress_context : at.suppress_context + 1 ≤ at.size
 
+-- what is read of each record lies inside it
 abbrev pub IsSound : Places → Type 0
 IsSound p = IsSoundException p.exception

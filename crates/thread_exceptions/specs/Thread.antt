@@ -35,6 +35,7 @@ pub data Value : Type 0 where
   At : (address : ℕ) → Value
   Lost : Fault → Value
 
+-- what an item of a thread names, and whether the thread or a coroutine that runs has the item (`_PyErr_StackItem`)
 pub record Handled : Type 0 where
   pub owner : Owner
   pub value : Value
@@ -48,9 +49,11 @@ pub record Thread : Type 0 where
 
 -- ---- what is raised
 
+-- the raised exception at an address; nothing at 0
 abbrev pub raised_exception : ℕ → Raised
 raised_exception addr = if nat_eq addr 0 then Raised.Nothing else Raised.Exception addr
 
+-- what is raised, by the addresses of its type and its value; nothing where the type is 0
 abbrev pub raised_parts : ℕ → ℕ → Raised
 raised_parts class value = if nat_eq class 0 then Raised.Nothing else Raised.Parts class value
 
@@ -67,10 +70,12 @@ pair_at klass value m thread = do
   named ← word_at m (thread + value)
   Ok (raised_parts class named)
 
+-- what a thread raises, by the exception that its record names, or by the parts of one
 unfoldable pub raised_word_at : RaisedPlaces → Memory → ℕ → Found Raised
 raised_word_at (places.Exception at) m thread = current_at at m thread
 raised_word_at (places.Parts klass value) m thread = pair_at klass value m thread
 
+-- what is raised; lost where that can't be read
 abbrev pub raised_by : Found Raised → Raised
 raised_by (Ok r) = r
 raised_by (Err f) = Raised.Lost f
@@ -81,6 +86,7 @@ raised_at p m thread = raised_by (raised_word_at p.raised m thread)
 
 -- ---- what is handled
 
+-- the items from the newest one on; lost where the thread's word for it can't be read
 abbrev pub items_by : Places → Memory → Found ℕ → Chain
 items_by p m (Ok newest) = chain_from (turn_at p.previous m) [] 4096 newest
 items_by p m (Err f) = record { members = []; end = Stops (stop.Lost f) }
@@ -99,6 +105,7 @@ flags_at p m a = do
   class ← word_at m (a + p.klass)
   word_at m (class + p.flags)
 
+-- whether an object is known to be no exception, by the flags of its type
 abbrev pub is_other_by : Found ℕ → Bool
 is_other_by (Ok flags) = not (is_exception flags)
 is_other_by (Err f) = false
@@ -111,6 +118,7 @@ is_other_at p m a = is_other_by (flags_at p m a)
 abbrev pub named : ℕ → Bool → Value
 named addr is_other = if is_other then Value.At 0 else Value.At addr
 
+-- what an item names by its word; lost where that can't be read
 abbrev pub value_by : Places → Memory → Found ℕ → Value
 value_by p m (Ok addr) = named addr (is_other_at p m addr)
 value_by p m (Err f) = Value.Lost f
@@ -119,21 +127,25 @@ value_by p m (Err f) = Value.Lost f
 abbrev pub value_at : Places → Memory → ℕ → Value
 value_at p m item = value_by p m (word_at m (item + p.value))
 
+-- what the item of a thread at an address names, and whose it is
 abbrev pub handled_at : Places → Memory → ℕ → ℕ → Handled
 handled_at p m thread item = record { owner = owner_of p thread item; value = value_at p m item }
 
 -- ---- what these lead to
 
+-- the address of what is raised, before 3.12 of its value; 0 where there is none
 abbrev pub raised_address : Raised → ℕ
 raised_address Raised.Nothing = 0
 raised_address (Raised.Exception addr) = addr
 raised_address (Raised.Parts class value) = value
 raised_address (Raised.Lost f) = 0
 
+-- the address that an item names; 0 where it is lost
 abbrev pub value_address : Value → ℕ
 value_address (Value.At addr) = addr
 value_address (Value.Lost f) = 0
 
+-- the address of what is handled; 0 where there is none
 abbrev pub handled_address : Handled → ℕ
 handled_address h = value_address h.value
 
@@ -154,23 +166,28 @@ thread_reads = 285700
 
 -- ---- as they are read
 
+-- what is raised, as the code has it
 abbrev pub raised_of : read_raised.Raised → Raised
 raised_of reads.Nothing = Raised.Nothing
 raised_of (reads.Exception addr) = Raised.Exception addr
 raised_of (reads.Parts class value) = Raised.Parts class value
 raised_of (reads.Unreadable l) = Raised.Lost (Missing l.addr l.len)
 
+-- a reader's result with what is raised
 abbrev pub raised_of_result : {E : Type 0} → Result read_raised.Raised E → Result Raised E
 raised_of_result (Ok r) = Ok (raised_of r)
 raised_of_result (Err e) = Err e
 
+-- what an item names, as the code has it
 abbrev pub value_of : read_value.Value → Value
 value_of (values.At addr) = Value.At addr
 value_of (values.Unreadable l) = Value.Lost (Missing l.addr l.len)
 
+-- what is handled, as the code has it
 abbrev pub handled_of : read_handled.Handled → Handled
 handled_of h = record { owner = h.owner; value = value_of h.value }
 
+-- a thread, as the code has it
 abbrev pub thread_of : ThreadExceptions → Thread
 thread_of t = record {
   raised = raised_of t.raised;

@@ -21,6 +21,7 @@ use Rattle.thread_exceptions.specs.Links.{End as end}
 use Rattle.thread_exceptions.specs.Links.{Stop as stop}
 use Rattle.thread_exceptions.specs.Links.{Turn as turn}
 
+-- a record that names the one at this address; the last one of a chain where its word can't be read
 abbrev pub by_word : Found ℕ → known.Turn
 by_word (Ok n) = turn.To n
 by_word (Err f) = turn.Last (stop.Lost f)
@@ -33,25 +34,29 @@ turn_at offset m a = if nat_eq a 0 then turn.Before stop.Null else by_word (word
 abbrev pub missing : Lost → known.Stop
 missing l = stop.Lost (Missing l.addr l.len)
 
+-- what ends a chain by itself, as the code has it
 abbrev pub stop_of : Stop → known.Stop
 stop_of stops.Null = stop.Null
 stop_of (stops.Unreadable l) = missing l
 
+-- how a chain ends, as the code has it
 abbrev pub end_of : LinkEnd → known.End
 end_of ends.Null = end.Stops stop.Null
 end_of (ends.Unreadable l) = end.Stops (missing l)
 end_of (ends.Cycle a) = end.Cycle a
 end_of (ends.Cut a) = end.Cut a
 
+-- what stands at an address, as the code has it
 abbrev pub turn_of : Turn → known.Turn
 turn_of (turns.To n) = turn.To n
 turn_of (turns.Last why) = turn.Last (stop_of why)
 turn_of (turns.Before why) = turn.Before (stop_of why)
 
+-- a chain, as the code has it
 abbrev pub chain_of : Links → Chain
 chain_of c = record { members = c.members.items; end = end_of c.end }
 
--- a range that was not read is told; want of memory is handed on
+-- a range that was not read is told; out of memory is handed on
 abbrev pub IsLost : ReadFault → Result Lost ExceptionsError → Type 0
 IsLost (fault.Unreadable a n) result = result ≡ Ok (record { addr = a; len = n })
 IsLost fault.OutOfMemory result = (e : ExceptionsError) × (result ≡ Err e)

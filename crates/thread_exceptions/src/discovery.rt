@@ -152,7 +152,7 @@ fn discover<P: ProcessMemory>(
 /// All objects that are met from some addresses on, in order of discovery, each once, at most `limit` of them: those at
 /// the addresses, and behind them what each exception leads to, in turn: its cause, its context unless that is
 /// suppressed, and its members. An address of 0 is none. There is one such list
-/// alone, and it is the answer. The one error is want of memory. At most 263 reads for each.
+/// alone, and it is the answer. The one error is out of memory. At most 263 reads for each.
 pub fn read_closure<P: ProcessMemory>(
     alloc: Global,
     process: &mut P,

@@ -57,7 +57,7 @@ pub struct Links {
     pub end: LinkEnd,
 }
 
-/// The range that was not read; want of memory is none.
+/// The range that was not read; out of memory is none.
 pub(crate) fn lost_range(error: ReadFault) -> Result<Lost, ExceptionsError>
     ensures { IsLost error result }
 {
@@ -140,7 +140,7 @@ fn follow<P: ProcessMemory>(
 
 /// The whole chain of records from an address on, each of which names the next one by the word at an offset, at most
 /// `limit` of them: none is left out and none is there twice; and how the chain ends. There is one such chain alone,
-/// and it is the answer. The one error is want of memory. At most one read for each record, and one more.
+/// and it is the answer. The one error is out of memory. At most one read for each record, and one more.
 pub fn read_links<P: ProcessMemory>(
     alloc: Global,
     process: &mut P,

@@ -341,7 +341,7 @@ fn tell<P: ProcessMemory>(
 /// is: the last is the thread's own, each other one that of a generator or a coroutine that runs. What is met are the
 /// objects that these name, and what they lead to, in order of discovery, each once, as `read_closure` tells them; an
 /// object that is no exception leads nowhere. What is not in memory is told where it was looked for, and takes nothing
-/// from the rest. There is one such answer alone. The one error is want of memory.
+/// from the rest. There is one such answer alone. The one error is out of memory.
 pub fn read_thread<P: ProcessMemory>(
     alloc: Global,
     process: &mut P,

@@ -28,6 +28,7 @@ active_in l m (Some a) = do
   search ← find_from l m (codes "_active") slots slots.count 0 65536
   dict_in l m search.found
 
+-- the dict `threading._active` of an interpreter (Lib/threading.py)
 unfoldable pub interpreter_active_at : Layout → Memory → ℕ → Found (Option Slots)
 interpreter_active_at l m interpreter = do
   modules ← word_at m (interpreter + l.interpreter.modules)
@@ -35,6 +36,7 @@ interpreter_active_at l m interpreter = do
   search ← find_from l m (codes "threading") slots slots.count 0 65536
   active_in l m search.found
 
+-- the same by the family of dicts; without dicts there is none
 abbrev pub active_by : Dicts → Found (Option Slots) → Found (Option Slots)
 active_by Absent slots = Err NoDicts
 active_by General slots = slots
@@ -46,9 +48,11 @@ active_at l m interpreter = active_by l.dicts (interpreter_active_at l m interpr
 
 -- ---- as it is read
 
+-- the slots of a dict, where there is one
 abbrev pub slots_of : Option Cursor → Option Slots
 slots_of dict = option_map (λ (c : Cursor). c.slots) dict
 
+-- a result with the slots of a dict
 abbrev pub slots_if : {E : Type 0} → Result (Option Cursor) E → Result (Option Slots) E
 slots_if (Ok dict) = Ok (slots_of dict)
 slots_if (Err e) = Err e

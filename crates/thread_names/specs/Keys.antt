@@ -18,6 +18,7 @@ use Rattle.py_names.specs.NamesError.{names_fault}
 use Rattle.thread_names.specs.declared.keys.Keyed.{Keyed}
 use Rattle.thread_names.specs.declared.keys.Keys.{Keys}
 
+-- a thread's id and the address of its `threading.Thread`
 abbrev pub keyed : (id thread : ℕ) → Keyed
 keyed id thread = record { id = id; thread = thread }
 
@@ -48,6 +49,7 @@ unfoldable pub keys_below : Layout → Memory → Slots → ℕ → KeysTold
 keys_below l m s zero = record { list = []; unread = 0 }
 keys_below l m s (suc n) = with_key (keys_below l m s n) (key_at l m s n)
 
+-- keys with so many more that can't be read
 abbrev pub with_more : KeysTold → ℕ → KeysTold
 with_more k more = record { list = k.list; unread = k.unread + more }
 
@@ -61,10 +63,11 @@ thread_under keys id = option_map (λ k. k.thread) (find (λ k. k.id == id) (rev
 
 -- ---- as it is read
 
+-- the keys that were read, and how many can't be
 abbrev pub keys_of : Keys → KeysTold
 keys_of k = record { list = k.list.items; unread = k.unread }
 
--- what was read of a slot is added; want of memory is handed on
+-- what was read of a slot is added; out of memory is handed on
 abbrev pub KeyAdded : Keys → Keys → Result (Option Keyed) NamesError → Type 0
 KeyAdded old new (Ok read) = keys_of new ≡ with_key (keys_of old) (Ok read)
 KeyAdded old new (Err e) = MatchOption (names_fault e) ⊥ (λ f. keys_of new ≡ with_key (keys_of old) (Err f))

@@ -4,6 +4,7 @@ use Rattle.std.specs.List.{find}
 use Rattle.thread_names.specs.declared.names.InterpreterNames.{InterpreterNames}
 use Rattle.thread_names.specs.declared.names.ThreadName.{ThreadName}
 
+-- the threads whose names were told
 abbrev pub threads_of : Option InterpreterNames → List ThreadName
 threads_of None = []
 threads_of (Some told) = told.threads.items
@@ -12,6 +13,7 @@ threads_of (Some told) = told.threads.items
 abbrev pub threads_named : List InterpreterNames → ℕ → List ThreadName
 threads_named names a = threads_of (find (λ (told : InterpreterNames). nat_eq told.interpreter a) names)
 
+-- the name of a thread, where it is told
 abbrev pub name_in : Option ThreadName → Option (List ℕ)
 name_in None = None
 name_in (Some thread) = thread.name

@@ -28,6 +28,7 @@ value_if l m name a = do
   text ← text_at l m a.name
   Ok (if bytes_eq (encode_utf8_all text) name then Some a.value else None)
 
+-- a value that was found, else what is found next
 abbrev pub or_next : Option ℕ → Found (Option ℕ) → Found (Option ℕ)
 or_next None rest = rest
 or_next (Some value) rest = Ok (Some value)
@@ -56,6 +57,7 @@ unfoldable pub name_object : Layout → Option DictRule → Memory → ℕ → F
 name_object l None m thread = named_by_type l m thread
 name_object l (Some rule) m thread = named_by_rule l rule m thread
 
+-- the characters of a text at an address, where there is one
 unfoldable pub text_if : Layout → Memory → Option ℕ → Found (Option (List ℕ))
 text_if l m None = Ok None
 text_if l m (Some a) = do

@@ -8,6 +8,7 @@ use Rattle.py_names.specs.declared.names_error.NamesError.TheVariants.{Entries, 
 use Rattle.thread_names.specs.declared.names.InterpreterNames.{InterpreterNames}
 use Rattle.thread_names.specs.declared.names.ThreadName.{ThreadName}
 
+-- JSON of a name; null where there is none
 abbrev pub name_tree : Option (List ℕ) → Data
 name_tree (Some name) = string (encode_utf8_all name)
 name_tree None = null
@@ -19,32 +20,39 @@ thread_fault_word NoDicts = codes "unreadable"
 thread_fault_word (Object e) = codes "unreadable"
 thread_fault_word OutOfMemory = codes "unreadable"
 
+-- JSON of why a thread's name can't be read
 abbrev pub thread_fault_tree : Option NamesError → Data
 thread_fault_tree (Some e) = string (thread_fault_word e)
 thread_fault_tree None = null
 
+-- JSON of a thread's name
 abbrev pub thread_tree : ThreadName → Data
 thread_tree t = object (
     member (codes "fault") (thread_fault_tree t.fault) (
     member (codes "name") (name_tree t.name) (
     member (codes "thread_id") (number (unsigned t.thread_id)) no_members)))
 
+-- JSON of the names of threads, in order
 abbrev pub threads_tree : List ThreadName → Data
 threads_tree threads = array (items_of (map (λ t. thread_tree t) threads))
 
+-- the words for why an interpreter's names can't be read
 abbrev pub fault_word : NamesError → List ℕ
 fault_word NoDicts = codes "no dicts"
 fault_word Entries = codes "more than 65536 slots"
 fault_word (Object e) = codes "unreadable"
 fault_word OutOfMemory = codes "out of memory"
 
+-- JSON of why an interpreter's names can't be read
 abbrev pub fault_tree : Option NamesError → Data
 fault_tree (Some e) = string (fault_word e)
 fault_tree None = null
 
+-- an address in hexadecimal digits behind `0x`
 abbrev pub address_text : ℕ → List ℕ
 address_text n = codes "0x" ++ digits 16 false n
 
+-- JSON of the names of an interpreter's threads
 abbrev pub interpreter_tree : InterpreterNames → Data
 interpreter_tree i = object (
     member (codes "fault") (fault_tree i.fault) (
@@ -52,5 +60,6 @@ interpreter_tree i = object (
     member (codes "threads") (threads_tree i.threads.items) (
     member (codes "unread") (number (unsigned i.unread)) no_members))))
 
+-- JSON of the names of all threads
 abbrev pub names_tree : List InterpreterNames → Data
 names_tree names = array (items_of (map (λ i. interpreter_tree i) names))

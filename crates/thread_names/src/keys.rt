@@ -69,7 +69,7 @@ fn read_key<P: ProcessMemory>(
     slot_key(process, layout, slot)
 }
 
-/// Whether an error is want of memory.
+/// Whether an error is out of memory.
 pub(crate) fn is_memory(error: &NamesError) -> bool
     ensures { MatchOption (names_fault error.now) (result ≡ true) (λ f. result ≡ false) }
 {
@@ -79,7 +79,7 @@ pub(crate) fn is_memory(error: &NamesError) -> bool
     }
 }
 
-/// Adds an entry, where it could be read and there is one; want of memory is handed on.
+/// Adds an entry, where it could be read and there is one; out of memory is handed on.
 fn add_key(keys: &mut Keys, read: Result<Option<Keyed>, NamesError>) -> Result<(), AllocError>
     requires { keys.old.unread < 2 ^ 63 }
     ensures { OnOk result (KeyAdded keys.old keys.new read) }
@@ -125,7 +125,7 @@ fn read_below<P: ProcessMemory>(
     Ok(keys)
 }
 
-/// The entries of a dict of threads. The one error is want of memory. At most 262144 reads.
+/// The entries of a dict of threads. The one error is out of memory. At most 262144 reads.
 #[tactic(auto, unfolding(crate::specs::Keys::keys_in))]
 pub(crate) fn read_keys<P: ProcessMemory>(
     alloc: Global,

@@ -25,7 +25,7 @@ pub struct ThreadName {
     pub thread_id: u64,
     /// Its name, where the interpreter keeps one for this id and it can be read.
     pub name: Option<Text>,
-    /// Why its name can't be read. It is never for want of memory; `Entries` stands for more than 256 slots.
+    /// Why its name can't be read. It is never for out of memory; `Entries` stands for more than 256 slots.
     pub fault: Option<NamesError>,
 }
 
@@ -39,7 +39,7 @@ pub struct InterpreterNames {
     /// How many slots of the dict of threads may have a thread whose id is not known: those that can't be read, and
     /// those past the first 65536.
     pub unread: u64,
-    /// Why no name is told, where the dict of threads can't be read. It is never for want of memory.
+    /// Why no name is told, where the dict of threads can't be read. It is never for out of memory.
     pub fault: Option<NamesError>,
 }
 
@@ -54,7 +54,7 @@ fn threads_map(alloc: Global, keys: &[Keyed]) -> Result<BTreeMap<u64, u64>, Allo
     Ok(map)
 }
 
-/// The thread of an id by what was read of its name; want of memory is handed on.
+/// The thread of an id by what was read of its name; out of memory is handed on.
 fn told_by(thread_id: u64, read: Result<Option<Text>, NamesError>) -> Result<ThreadName, AllocError>
     ensures { IfOk result (IsToldBy thread_id read) }
 {
@@ -222,7 +222,7 @@ fn named_by_active<P: ProcessMemory>(
     }
 }
 
-/// The same, by why the dict of threads was not read; want of memory is handed on.
+/// The same, by why the dict of threads was not read; out of memory is handed on.
 fn without_dict(
     alloc: Global,
     interpreter: u64,
@@ -249,7 +249,7 @@ fn without_dict(
 ///
 /// Of a thread whose name can't be read, the fault is told, and so it is where 256 slots of its dict have no `_name`
 /// and there are more. A slot whose id can't be read is counted, and so is each past the first 65536. Where there is a
-/// fault on the way to the dict of threads no thread has a name, and that is told. The one error is want of memory. At
+/// fault on the way to the dict of threads no thread has a name, and that is told. The one error is out of memory. At
 /// most 786442 reads, and 1035 for each id.
 pub fn read_thread_names<P: ProcessMemory>(
     alloc: Global,

@@ -110,7 +110,7 @@ fn interpreter_value(alloc: Global, names: &InterpreterNames) -> Result<Value, A
 /// an object with its id, its name or null, and null or a word that says why that can't be read; how many slots may
 /// have a thread whose id is not known; and null or a word that says why no name is told.
 ///
-/// The keys of an object stand in the order of their bytes. The one error is want of memory.
+/// The keys of an object stand in the order of their bytes. The one error is out of memory.
 pub fn names_value(alloc: Global, names: &[InterpreterNames]) -> Result<Value, AllocError>
     ensures { IfOk result (λ value. view value ≡ names_tree names.now) }
 {

@@ -26,6 +26,7 @@ cell_text r = codes " " ++ (name_cell r.name ++ (codes " " ++ hex_of 16 r.value)
 abbrev pub lead_text : ℕ → List ℕ
 lead_text column = if column == 0 then codes "\n   " else []
 
+-- the column behind one, of the four of a line
 abbrev pub next_column : ℕ → ℕ
 next_column column = if column == 3 then 0 else column + 1
 
@@ -34,12 +35,15 @@ unfoldable pub cells_text : ℕ → List Named → List ℕ
 cells_text column [] = codes "\n"
 cells_text column (r ∷ rs) = lead_text column ++ (cell_text r ++ cells_text (next_column column) rs)
 
+-- the lines of a thread's registers, or that there are none
 abbrev pub registers_text : Option (List Named) → List ℕ
 registers_text (Some registers) = cells_text 0 registers
 registers_text None = codes ": no registers\n"
 
+-- the lines of a thread: the system's id, whose it is, and its registers
 abbrev pub thread_text : ThreadShown → List ℕ
 thread_text t = codes "Thread " ++ (decimal t.system_id ++ (whose_text t.whose ++ registers_text t.registers))
 
+-- the lines of all threads
 abbrev pub threads_text : List ThreadShown → List ℕ
 threads_text threads = concat (map (λ t. thread_text t) threads)

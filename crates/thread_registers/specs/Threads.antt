@@ -65,6 +65,7 @@ is_told_by (Some pointer) native t = is_id (Some pointer) t.thread_id
 abbrev pub is_python : Crash → PythonThread → Bool
 is_python thread t = is_told_by thread.thread_pointer thread.native_id t
 
+-- the thread of Python's at an index, and its id
 abbrev pub match_at : List PythonThread → ℕ → Option PythonMatch
 match_at pythons index =
     option_map (λ (t : PythonThread). record { index = index; thread_id = t.thread_id }) (slice_get pythons index)
@@ -78,10 +79,12 @@ abbrev pub is_untold : Option ℕ → List PythonThread → Bool
 is_untold None pythons = is_some (position (λ t. is_none t.native_id) pythons)
 is_untold (Some pointer) pythons = false
 
+-- whose a thread is: Python's where one was found, else another's, or that can't be told
 abbrev pub whose_by : Option PythonMatch → Bool → Whose
 whose_by (Some found) untold = Python found
 whose_by None untold = if untold then Untold else Other
 
+-- whose the thread of a record is
 unfoldable pub whose_of : List PythonThread → Crash → Whose
 whose_of pythons thread = whose_by (python_of pythons thread) (is_untold thread.thread_pointer pythons)
 
@@ -106,12 +109,15 @@ threads_told machine pythons notes = filter_map (thread_noted machine pythons) n
 
 -- ---- as they are read
 
+-- a register with its name, in plain terms
 abbrev pub named_of : Register → Named
 named_of r = record { name = r.name.now; value = r.value }
 
+-- a thread's registers in plain terms, where there are some
 abbrev pub registers_shown : Option (Vec Register Global) → Option (List Named)
 registers_shown registers = option_map (λ (rs : Vec Register Global). map named_of rs.items) registers
 
+-- a thread in plain terms
 abbrev pub thread_shown : ThreadRegisters → ThreadShown
 thread_shown t = record {
   system_id = t.system_id;

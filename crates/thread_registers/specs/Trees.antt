@@ -16,10 +16,12 @@ unfoldable pub registers_put : List Named → Members → Members
 registers_put [] members = members
 registers_put (r ∷ rs) members = registers_put rs (put r.name (string (value_text r.value)) members)
 
+-- a thread's registers, as an object with the value of each at its name; null where there are none
 abbrev pub registers_tree : Option (List Named) → Data
 registers_tree (Some registers) = object (registers_put registers no_members)
 registers_tree None = null
 
+-- an object that has a kind alone
 abbrev pub kind_tree : List ℕ → Data
 kind_tree kind = object (member (codes "kind") (string kind) no_members)
 
@@ -31,11 +33,13 @@ whose_tree (Python found) = object (
 whose_tree Other = kind_tree (codes "none")
 whose_tree Untold = kind_tree (codes "not told")
 
+-- a thread: whose it is, its registers, and the system's id
 abbrev pub thread_tree : ThreadShown → Data
 thread_tree t = object (
     member (codes "python") (whose_tree t.whose) (
     member (codes "registers") (registers_tree t.registers) (
     member (codes "system_id") (number (unsigned t.system_id)) no_members)))
 
+-- some threads, as an array
 abbrev pub threads_tree : List ThreadShown → Data
 threads_tree threads = array (items_of (map (λ t. thread_tree t) threads))

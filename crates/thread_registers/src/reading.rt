@@ -150,7 +150,7 @@ fn add_thread(
 /// whose `native_id` is the system's id. An id of 0 is nobody's. Where none is and that id is not known of each of
 /// them (aarch64 before 3.11), whose it is is not told.
 ///
-/// The one error is want of memory.
+/// The one error is out of memory.
 pub fn read_threads(
     alloc: Global,
     machine: Machine,

@@ -110,7 +110,7 @@ fn push_thread(text: &mut String, thread: &ThreadRegisters) -> Result<(), AllocE
 /// Appends the lines of threads, in order: of each `Thread` with the id that the system gave it, in decimal, and whose
 /// it is: `(Python's 0x7F..)` with the id that the interpreter gave, `(none of Python's)` or `(whose is not told)`; and
 /// below, four a line, its registers by name, each with 16 hexadecimal digits, or in the same line `: no registers`.
-/// The one error is want of memory.
+/// The one error is out of memory.
 pub fn push_threads(text: &mut String, threads: &[ThreadRegisters]) -> Result<(), AllocError>
     ensures { OnOk result (string_bytes text.new
         ≡ string_bytes text.old ++ threads_text (map thread_shown threads.now)) }

@@ -89,7 +89,7 @@ fn thread_value(alloc: Global, thread: &ThreadRegisters) -> Result<Value, AllocE
 /// hexadecimal digits, or null where there are none, and `python`, whose it is: an object whose `kind` is `thread`,
 /// with the `thread_id` that the interpreter gave, `none` (of Python's), or `not told`.
 ///
-/// The keys of an object stand in the order of their bytes. The one error is want of memory.
+/// The keys of an object stand in the order of their bytes. The one error is out of memory.
 pub fn threads_value(alloc: Global, threads: &[ThreadRegisters]) -> Result<Value, AllocError>
     ensures value { IfOk result (λ value. view value ≡ threads_tree (map thread_shown threads.now)) }
     ensures no_float { has_float (threads_tree (map thread_shown threads.now)) ≡ false }

@@ -32,6 +32,7 @@ is_type_at l m a = do
   flags ← word_at m (class + l.klass.flags)
   Ok (bit_is_set flags 31)
 
+-- whether a type states this size, where it is still in question (`tp_basicsize`)
 unfoldable pub has_size_if : TypeFields → Memory → ℕ → ℕ → Bool → Found Bool
 has_size_if f m size a false = Ok false
 has_size_if f m size a true = do

@@ -32,9 +32,11 @@ types_met_at l f m code modules = do
   object ← word_at m (metatype + f.base)
   Ok (record { code = class; metatype = metatype; parts = parts; dict = dict; object = object })
 
+-- a type that the code of a frame leads to
 abbrev pub by_code : ℕ → TypePlace
 by_code a = type_place a CodeOfAFrame
 
+-- the types that the code of a frame leads to
 abbrev pub core_types_by : TypesMet → CoreTypes
 core_types_by t = record {
   code = by_code t.code;
@@ -46,10 +48,12 @@ core_types_by t = record {
   object = by_code t.object;
 }
 
+-- the addresses of these types
 abbrev pub addresses_met : TypesMet → List ℕ
 addresses_met t =
     t.metatype ∷ t.code ∷ t.parts.text ∷ t.parts.bytes ∷ t.parts.tuple ∷ t.dict ∷ t.object ∷ []
 
+-- these types, where they stood the test
 abbrev pub types_if : TypesMet → Bool → Option CoreTypes
 types_if t false = None
 types_if t true = Some (core_types_by t)

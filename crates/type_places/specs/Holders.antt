@@ -9,6 +9,7 @@ use Rattle.py_builtins.specs.declared.types.ObjectType.{ObjectType}
 use Rattle.type_places.specs.declared.classes.TypeFields.{TypeFields}
 use Rattle.type_places.specs.Classes.{class_address_at}
 
+-- whether a text that was read is this one
 abbrev pub is_text : List ℕ → Option (List ℕ) → Bool
 is_text name None = false
 is_text name (Some text) = bytes_eq text name
@@ -25,6 +26,7 @@ has_shape l f m class size = do
   own ← class_address_at l m metatype
   Ok (stated == size && own == metatype)
 
+-- whether a type has a shape, where it is still in question
 abbrev pub has_shape_if : Layout → TypeFields → Memory → ℕ → ℕ → Bool → Found Bool
 has_shape_if l f m class size false = Ok false
 has_shape_if l f m class size true = has_shape l f m class size
@@ -46,6 +48,7 @@ is_object_of l m class (suc a) = do
 unfoldable pub holds_at : Layout → Memory → ℕ → ℕ → ℕ → Found Bool
 holds_at l m object place class = word_at m (object + place) >>= is_object_of l m class
 
+-- whether an object holds one of a class, where it is still in question
 unfoldable pub holds_if : Layout → Memory → ℕ → ℕ → ℕ → Bool → Found Bool
 holds_if l m object place class false = Ok false
 holds_if l m object place class true = holds_at l m object place class

@@ -44,6 +44,7 @@ module_type_at l f m modules module_name type_name size = do
 
 -- ---- how many slots are looked at
 
+-- how many slots are looked at for a name in a module
 unfoldable pub module_entry_looked : Layout → Memory → List ℕ → Option ℕ → ℕ → ℕ
 module_entry_looked l m name None left = 0
 module_entry_looked l m name (Some a) left =

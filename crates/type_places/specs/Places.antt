@@ -7,9 +7,11 @@ use Rattle.type_places.specs.declared.places.Found.TheVariants.{Symbol}
 use Rattle.type_places.specs.declared.places.TypePlace.{TypePlace}
 use Rattle.type_places.specs.Classes.{is_type_at}
 
+-- a type's address, and how it was found
 abbrev pub type_place : ℕ → How → TypePlace
 type_place a how = record { address = a; found = how }
 
+-- a type's place, where it stood the test
 abbrev pub place_if : ℕ → How → Bool → Option TypePlace
 place_if a how false = None
 place_if a how true = Some (type_place a how)

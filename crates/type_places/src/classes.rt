@@ -24,7 +24,7 @@ pub struct TypeFields {
 
 /// The address of the class of the object at an address, as its record names it.
 ///
-/// A word that is not in memory is `Unreadable`. It takes no memory: want of memory comes only where a read of the
+/// A word that is not in memory is `Unreadable`. It takes no memory: out of memory comes only where a read of the
 /// process may want it. One read.
 pub fn class_of<P: ProcessMemory>(
     process: &mut P,

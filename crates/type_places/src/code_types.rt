@@ -142,7 +142,7 @@ fn checked_types<P: ProcessMemory>(
 /// derives from. They are told only where each of them has `type` as its class, `type` too, which no other class has
 /// of itself.
 ///
-/// A word that is not in memory is `Unreadable`, in this order. It takes no memory: want of memory comes only where a
+/// A word that is not in memory is `Unreadable`, in this order. It takes no memory: out of memory comes only where a
 /// read of the process may want it. At most 17 reads.
 pub fn core_types<P: ProcessMemory>(
     process: &mut P,

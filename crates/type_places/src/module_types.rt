@@ -100,7 +100,7 @@ fn module_place<P: ProcessMemory>(
 ///
 /// `Entries` comes where 65536 slots of these dicts were looked at, empty ones too, and another would be. `Object` has
 /// the first fault of what is read: a part that is not in memory, a dict that is none, or a key met in a search that is
-/// no text. Else it is want of memory, `OutOfMemory`, which `Object` never holds. At most 10 reads, and 4 for each slot
+/// no text. Else it is out of memory, `OutOfMemory`, which `Object` never holds. At most 10 reads, and 4 for each slot
 /// that is looked at.
 pub fn module_type<P: ProcessMemory>(
     alloc: Global,

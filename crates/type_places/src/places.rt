@@ -43,7 +43,7 @@ pub(crate) fn place_if(address: u64, found: Found, is: bool) -> Option<TypePlace
 /// The place of the type that a symbol names, where there is such a symbol and a type stands at its address.
 ///
 /// A word that is not in memory is `Unreadable`: that of the class of what stands there, then that of this class's
-/// flags. It takes no memory: want of memory comes only where a read of the process may want it. At most 2 reads.
+/// flags. It takes no memory: out of memory comes only where a read of the process may want it. At most 2 reads.
 pub fn by_symbol<P: ProcessMemory>(
     process: &mut P,
     layout: &Layout,

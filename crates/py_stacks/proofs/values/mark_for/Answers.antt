@@ -7,7 +7,7 @@ use Rattle.py_builtins.specs.declared.error.ObjectError.TheVariants.{Visits, Dep
 use Rattle.py_builtins.specs.ObjectError.{object_fault}
 use Rattle.py_stacks.proofs.values.mark_for.Goals as goal
 
--- each error but want of memory names a fault
+-- each error but out of memory names a fault
 is_fault : (e : ObjectError) → e ≢ OutOfMemory → IsSome (object_fault e)
 is_fault (Unreadable addr len) h = refl
 is_fault NoText h = refl
