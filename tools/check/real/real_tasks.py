@@ -274,7 +274,7 @@ def may_be(number: int, chain: List[str]) -> bool:
 
 def at_speed(salvage: Path, build: Build, names: str, room: Path) -> str:
     """A loop that is cut at full speed: each worker is there, with no chain that the program can't have, and the one that runs stands in its
-    thread's stack."""
+    thread's stack, unless its step begins or ends there."""
     room.mkdir()
     chance, running = random.Random(build.dotted), 0
     for turn in range(TURNS):
@@ -292,7 +292,8 @@ def at_speed(salvage: Path, build: Build, names: str, room: Path) -> str:
         if any(it["condition"] == "running" for it in workers):
             running += 1
             frames = [frame.get("name") for one in tree["interpreters"] for thread in one["threads"] for part in ("first", "last") for frame in thread["frames"][part]]
-            if "works" not in frames:
+            # (a step names its task before it pushes the coroutine's frame, and after it has popped that)
+            if "works" not in frames and frames[:1] != ["_run"]:
                 raise Failure(f"a worker runs, and no thread has its frame: {frames}")
         core.unlink()
     return f"{TURNS} cut at full speed ({running} in a task)"
