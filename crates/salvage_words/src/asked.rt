@@ -154,8 +154,8 @@ fn salvage_words(alloc: Global, words: &[String]) -> Result<SalvageWords, ArgsEr
 }
 
 /// What the words ask for: `CORE --layouts FILE [--records FILE] [-n N] [-l].. [-j] [--signal] [--registers]
-/// [--missing] [--check-layout] [--names] [--tasks] [--exceptions] [--waits] [--native] [--strict] [--heap]
-/// [PATH=FILE]..` behind the program's name, of which nothing is read; or `--help` or `--version` alone.
+/// [--missing] [--check-layout] [--names] [--tasks] [--exceptions] [--waits] [--native] [--strict] [--crashed]
+/// [--heap] [PATH=FILE]..` behind the program's name, of which nothing is read; or `--help` or `--version` alone.
 ///
 /// Clap takes the words, in any order that it knows: the core's file; `--layouts` with a value, once; `--records` with
 /// one, at most once; `-n` or `--frames` with a value, at most once, a number from 1 to 4096 in decimal digits (100
